@@ -1,0 +1,104 @@
+// Answers cases from standard input, one line each, so that any other implementation can be held beside the library.
+// A case is its kind (1 byte), the length of its payload (4 bytes, little endian) and the payload. Numbers are printed in decimal,
+// bytes in hex, `-` for none.
+mod read;
+mod text;
+mod varints;
+
+// Whether the program goes on, and how much of the output is filled.
+struct Go {
+    filled: usize,
+    more: bool,
+}
+
+// One case, whose payload is whole.
+fn answer(kind: u8, payload: &[u8], out: &mut [u8], filled: usize) -> usize {
+    let n = text::spare(out, filled);
+    match kind {
+        3 => varints::read_unsigned(payload, out, n),
+        4 => varints::read_signed(payload, out, n),
+        5 => varints::write_unsigned(payload, out, n),
+        6 => varints::write_signed(payload, out, n),
+        _ => output::put_word(out, n, b"bad case\n"),
+    }
+}
+
+// A case whose payload is longer than any that is answered: it is passed over.
+fn pass_over(kind: u8, rest: u64, payload: &mut [u8], out: &mut [u8], filled: usize) -> Go {
+    let n = text::spare(out, filled);
+    if read::skip(rest, payload) {
+        if kind == 3 {
+            return Go {
+                filled: output::put_word(out, n, b"too long\n"),
+                more: true,
+            };
+        }
+        if kind == 4 {
+            return Go {
+                filled: output::put_word(out, n, b"too long\n"),
+                more: true,
+            };
+        }
+        return Go {
+            filled: output::put_word(out, n, b"bad case\n"),
+            more: true,
+        };
+    }
+    Go {
+        filled: output::put_word(out, n, b"cut short\n"),
+        more: false,
+    }
+}
+
+// The next case, if there is one.
+fn turn(head: &mut [u8; 5], payload: &mut [u8], out: &mut [u8], filled: usize) -> Go {
+    let got = io::read_full(0, head);
+    if got == 0 {
+        return Go {
+            filled,
+            more: false,
+        };
+    }
+    let n = text::spare(out, filled);
+    if got < 5 {
+        return Go {
+            filled: output::put_word(out, n, b"cut short\n"),
+            more: false,
+        };
+    }
+    let kind = head[0];
+    let length = read::little4(head, 1);
+    if payload.len() < length {
+        return pass_over(kind, length as u64, payload, out, n);
+    }
+    if !read::fill(payload, length) {
+        return Go {
+            filled: output::put_word(out, n, b"cut short\n"),
+            more: false,
+        };
+    }
+    Go {
+        filled: answer(kind, &payload[..length], out, n),
+        more: true,
+    }
+}
+
+fn run(payload: &mut [u8], out: &mut [u8]) {
+    let mut head = [0u8; 5];
+    let mut filled: usize = 0;
+    let mut more = true;
+    let mut turns = u64::MAX;
+    while turns > 0 && more {
+        let g = turn(&mut head, payload, out, filled);
+        filled = g.filled;
+        more = g.more;
+        turns -= 1;
+    }
+    text::flush(out, filled);
+}
+
+fn main() {
+    let mut payload = [0u8; 65544];
+    let mut out = io::large_buffer();
+    run(&mut payload, &mut out);
+}

@@ -1,0 +1,3 @@
+-- Laws of the refusals, and one that every crate uses.
+pub mod Cases
+pub mod Laws

@@ -1,0 +1,3 @@
+-- What tokens and the answers about them mean.
+pub mod Meaning
+pub mod Strings

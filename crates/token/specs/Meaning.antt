@@ -1,0 +1,44 @@
+-- What the answer about a token means, and what the scan sees of a token.
+use Prim.Native.Nat.{ℕ}
+use mathlib.Core.List.{List, [], _∷_}
+use Rattle.refusal.specs.Numbers.{beyondSlice}
+use Rattle.refusal.specs.Paper.{Paper, gives, more, refused, Spot, spot}
+use Rattle.refusal.specs.Meaning.{refusalMeaning}
+use Rattle.token.specs.declared.Token.{Token}
+use Rattle.token.specs.declared.Token.the-variants.{BeginAttributes, EndAttributes, BeginList, EndList, BeginMap, EndMap, String, Escaped, Int64, Uint64, Double, Decimal, Boolean, Entity, KeyValueSeparator, ItemSeparator}
+use Rattle.token.specs.declared.Kind.{Kind}
+use Rattle.token.specs.declared.Kind.the-variants.{Text, Scalar, OpenList, CloseList, OpenMap, CloseMap, OpenAttributes, CloseAttributes, Equals, Semicolon}
+use Rattle.token.specs.declared.Read.{Read}
+use Rattle.token.specs.declared.Read.the-variants as read
+
+-- an answer about a token: the token with the place of its first byte and the place after it, more bytes are needed, or a refusal
+abbrev pub readMeaning : Read → Paper (Spot Token)
+readMeaning (read.Token t first next) = gives (spot t first next)
+readMeaning read.Incomplete = more
+readMeaning (read.Refused r) = refusalMeaning r
+readMeaning read.Beyond = refused beyondSlice []
+
+-- the scan sees a string, another scalar, or a mark
+abbrev pub kindOf : Token → Kind
+kindOf BeginAttributes = OpenAttributes
+kindOf EndAttributes = CloseAttributes
+kindOf BeginList = OpenList
+kindOf EndList = CloseList
+kindOf BeginMap = OpenMap
+kindOf EndMap = CloseMap
+kindOf (String s n) = Text
+kindOf (Escaped s n) = Text
+kindOf (Int64 z) = Scalar
+kindOf (Uint64 n) = Scalar
+kindOf (Double x b) = Scalar
+kindOf (Decimal s n) = Scalar
+kindOf (Boolean q) = Scalar
+kindOf Entity = Scalar
+kindOf KeyValueSeparator = Equals
+kindOf ItemSeparator = Semicolon
+
+-- the same of an answer
+abbrev pub kindsOf : Paper (Spot Token) → Paper (Spot Kind)
+kindsOf (gives (spot t first next)) = gives (spot (kindOf t) first next)
+kindsOf more = more
+kindsOf (refused n vs) = refused n vs

@@ -1,0 +1,8 @@
+-- Laws that belong to no one function.
+pub mod Read
+pub mod Zigzag
+pub mod Write
+pub mod Round
+pub mod Extend
+pub mod Answers
+pub mod Examples

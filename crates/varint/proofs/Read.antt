@@ -1,0 +1,145 @@
+-- Laws of `run`, `number` and `uvarint`, each about a list t: what is known after i bytes, and which answer follows.
+-- Assumes nothing.
+use mathlib.Core.Path.{_≡_, refl, sym, ap, _∙_}
+use mathlib.Core.Logic.{⊎-elim}
+use mathlib.Core.Bool.{Bool, true, false, _&&_}
+use mathlib.Core.List.{List, [], _∷_}
+use Prim.Native.Nat.{ℕ, zero, suc, _+_, _*_, _%_, _^_, _≤_, _<_, zero-le}
+use native.Mathlib.Nat.{pow-suc, mul-assoc, pow-le-pow-right, le-trans}
+use native.Mathlib.Omega.{arith}
+use lib.ListN.{length, take, drop, getD}
+use lib.Seq.{length-take-le}
+use lib.Dec.{leb, ltb, lit<}
+use borrow.Author.Tests.{lt-ltb, le-ltb, le-leb, lt-leb}
+use Rattle.refusal.specs.Numbers.{longVarint, wideVarint, beyondSlice}
+use Rattle.refusal.specs.Paper.{Paper, gives, more, refused, Got, got, pick}
+use Rattle.refusal.proofs.Cases.{either}
+use Rattle.varint.specs.Varint.{run, number, tenthIsWide, eleventhIsThere, uvarint, uvarintAt}
+
+-- a number and the place after it, as an answer
+abbrev pub giving : {A : Type 0} → A → ℕ → Paper (Got A)
+giving v n = gives (got v n)
+
+-- ---- run
+
+pub run-yes : (b : ℕ) (bs : List ℕ) → 128 ≤ b → run (b ∷ bs) ≡ suc (run bs)
+unfolding run
+run-yes b bs h = rw (le-leb 128 b h)
+
+pub run-no : (b : ℕ) (bs : List ℕ) → b < 128 → run (b ∷ bs) ≡ 0
+unfolding run
+run-no b bs h = rw (lt-leb 128 b h)
+
+pub run-le : (t : List ℕ) → run t ≤ length t
+unfolding run
+run-le [] = zero-le
+run-le (b ∷ bs) = ⊎-elim (λ h. omega (arith, run-yes b bs h, run-le bs)) (λ h. omega (arith, run-no b bs h)) (either 128 b)
+
+-- a byte with the top bit set makes the run longer
+pub run-more : (i : ℕ) (t : List ℕ) → i ≤ run t → i < length t → 128 ≤ getD t i 0 → suc i ≤ run t
+run-more zero [] p q h = absurd (omega arith)
+run-more (suc i) [] p q h = absurd (omega arith)
+run-more zero (b ∷ bs) p q h = omega (arith, run-yes b bs h)
+run-more (suc i) (b ∷ bs) p q h =
+    ⊎-elim (λ k. omega (arith, run-yes b bs k, run-more i bs (omega (arith, run-yes b bs k)) (omega arith) h))
+    (λ k. absurd (omega (arith, run-no b bs k))) (either 128 b)
+
+-- and one without ends it
+pub run-stop : (i : ℕ) (t : List ℕ) → i ≤ run t → i < length t → getD t i 0 < 128 → run t ≡ i
+run-stop zero [] p q h = absurd (omega arith)
+run-stop (suc i) [] p q h = absurd (omega arith)
+run-stop zero (b ∷ bs) p q h = run-no b bs h
+run-stop (suc i) (b ∷ bs) p q h =
+    ⊎-elim (λ k. omega (arith, run-yes b bs k, run-stop i bs (omega (arith, run-yes b bs k)) (omega arith) h))
+    (λ k. absurd (omega (arith, run-no b bs k))) (either 128 b)
+
+-- ---- number
+
+-- one byte more
+pub number-take : (i : ℕ) (t : List ℕ) → i < length t
+    → number (take (suc i) t) ≡ number (take i t) + getD t i 0 % 128 * 128 ^ i
+unfolding number
+number-take zero [] h = absurd (omega arith)
+number-take (suc i) [] h = absurd (omega arith)
+number-take zero (b ∷ bs) h = omega arith
+number-take (suc i) (b ∷ bs) h =
+    let p : getD bs i 0 % 128 * 128 ^ suc i ≡ getD bs i 0 % 128 * 128 ^ i * 128 = rw (pow-suc 128 i) (sym (mul-assoc _ _ _)) in
+    omega (arith, number-take i bs (omega arith))
+
+pub number-lt : (l : List ℕ) → number l < 128 ^ length l
+unfolding number
+number-lt [] = lit< tt
+number-lt (b ∷ bs) = omega (arith, pow-suc 128 (length bs), number-lt bs)
+
+-- nine bytes are below 2 ^ 63
+pub nine : (i : ℕ) → i ≤ 9 → 128 ^ i ≤ 0x8000_0000_0000_0000
+nine i h = pow-le-pow-right {n = 128} (lit< tt) h
+
+pub sum-lt : (i : ℕ) (t : List ℕ) → i < 9 → i < length t → number (take i t) + getD t i 0 % 128 * 128 ^ i < 0x8000_0000_0000_0000
+sum-lt i t h k =
+    let e : length (take (suc i) t) ≡ suc i = length-take-le (suc i) t (omega arith) in
+    let n : number (take (suc i) t) < 128 ^ suc i = rw e at (number-lt (take (suc i) t)) in
+    omega (arith, number-take i t k, nine (suc i) (omega arith))
+
+-- ---- uvarint
+
+and-no : (a q : Bool) → q ≡ false → (a && q) ≡ false
+and-no true q e = e
+and-no false q e = refl
+
+-- the two refusals are ruled out, each by one of its tests
+pub no-four : (t : List ℕ) → getD t 9 0 % 128 ≤ 1 → tenthIsWide t ≡ false
+no-four t h = and-no (leb 9 (run t) && ltb 9 (length t)) _ (le-ltb 1 (getD t 9 0 % 128) h)
+
+no-four-short : (t : List ℕ) → length t ≤ 9 → tenthIsWide t ≡ false
+no-four-short t h = rw (and-no (leb 9 (run t)) _ (le-ltb 9 (length t) h))
+
+pub no-four-yet : (t : List ℕ) → run t < 9 → tenthIsWide t ≡ false
+no-four-yet t h = rw (lt-leb 9 (run t) h)
+
+no-three : (t : List ℕ) → length t ≤ 10 → eleventhIsThere t ≡ false
+no-three t h = and-no (leb 10 (run t)) _ (le-ltb 10 (length t) h)
+
+pub no-three-yet : (t : List ℕ) → run t < 10 → eleventhIsThere t ≡ false
+no-three-yet t h = rw (lt-leb 10 (run t) h)
+
+pub is-over : (at : ℕ) (t : List ℕ) → 9 ≤ run t → 9 < length t → 1 < getD t 9 0 % 128 → uvarint at t ≡ refused wideVarint (at ∷ [])
+unfolding uvarint
+is-over at t p q h = simp (le-leb 9 (run t) p, lt-ltb 9 (length t) q, lt-ltb 1 (getD t 9 0 % 128) h)
+
+pub is-long : (at : ℕ) (t : List ℕ) → 10 ≤ run t → 10 < length t → getD t 9 0 % 128 ≤ 1 → uvarint at t ≡ refused longVarint (at ∷ [])
+unfolding uvarint
+is-long at t p q h = simp (no-four t h, le-leb 10 (run t) p, lt-ltb 10 (length t) q)
+
+-- the bytes ended: within nine, or after ten
+pub is-more : (at : ℕ) (t : List ℕ) → length t ≤ run t → length t ≤ 9 → uvarint at t ≡ more
+unfolding uvarint
+is-more at t p q =
+    simp (no-four-short t q, no-three t (omega arith), le-leb (length t) (run t) p)
+
+pub is-more-ten : (at : ℕ) (t : List ℕ) → length t ≤ run t → length t ≤ 10 → getD t 9 0 % 128 ≤ 1 → uvarint at t ≡ more
+unfolding uvarint
+is-more-ten at t p q h = simp (no-four t h, no-three t q, le-leb (length t) (run t) p)
+
+-- a byte without the top bit ends the number: before the tenth, or as the tenth
+pub is-value : (at i : ℕ) (t : List ℕ) → i < 9 → i ≤ run t → i < length t → getD t i 0 < 128
+    → uvarint at t ≡ giving (number (take i t) + getD t i 0 % 128 * 128 ^ i) (at + suc i)
+unfolding uvarint
+is-value at i t h p q k =
+    let e : run t ≡ i = run-stop i t p q k in
+    rw (no-four-yet t (omega arith), no-three-yet t (omega arith), e, lt-leb (length t) i q, number-take i t q)
+
+pub is-value-ten : (at : ℕ) (t : List ℕ) → 9 ≤ run t → 9 < length t → getD t 9 0 < 128 → getD t 9 0 % 128 ≤ 1
+    → uvarint at t ≡ giving (number (take 9 t) + getD t 9 0 % 128 * 128 ^ 9) (at + 10)
+unfolding uvarint
+is-value-ten at t p q k h =
+    let e : run t ≡ 9 = run-stop 9 t p q k in
+    rw (no-four t h, no-three-yet t (omega arith), e, lt-leb (length t) 9 q, number-take 9 t q)
+
+pub at-is : (s : List ℕ) (at : ℕ) → at ≤ length s → uvarintAt s at ≡ uvarint at (drop at s)
+unfolding uvarintAt
+at-is s at h = rw (le-ltb (length s) at h)
+
+pub at-beyond : (s : List ℕ) (at : ℕ) → length s < at → uvarintAt s at ≡ refused beyondSlice []
+unfolding uvarintAt
+at-beyond s at h = rw (lt-ltb (length s) at h)
