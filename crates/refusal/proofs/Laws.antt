@@ -145,3 +145,7 @@ cause-above BeyondSlice = lit≤ tt
 cause-above ShortOutput = lit≤ tt
 cause-above StrangeState = lit≤ tt
 cause-above BadCall = lit≤ tt
+
+-- a refusal that was moved, as an answer
+pub moved-meaning : {A : Type 0} → (q : ℕ) (r : Refusal) → _≡_ {A = Paper A} (refusalMeaning (movedTo q r)) (refused (numberOf r) (q ∷ []))
+moved-meaning q r = ap₂ (λ (n p : ℕ). refused n (p ∷ [])) (moved-number q r) (moved-place q r)

@@ -1,3 +1,5 @@
 -- What tokens and the answers about them mean.
 pub mod Meaning
+pub mod Marks
+pub mod Ends
 pub mod Strings

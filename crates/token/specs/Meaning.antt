@@ -8,6 +8,8 @@ use Rattle.token.specs.declared.Token.{Token}
 use Rattle.token.specs.declared.Token.the-variants.{BeginAttributes, EndAttributes, BeginList, EndList, BeginMap, EndMap, String, Escaped, Int64, Uint64, Double, Decimal, Boolean, Entity, KeyValueSeparator, ItemSeparator}
 use Rattle.token.specs.declared.Kind.{Kind}
 use Rattle.token.specs.declared.Kind.the-variants.{Text, Scalar, OpenList, CloseList, OpenMap, CloseMap, OpenAttributes, CloseAttributes, Equals, Semicolon}
+use Rattle.token.specs.declared.Extent.{Extent}
+use Rattle.token.specs.declared.Extent.the-variants as extent
 use Rattle.token.specs.declared.Read.{Read}
 use Rattle.token.specs.declared.Read.the-variants as read
 
@@ -42,3 +44,22 @@ abbrev pub kindsOf : Paper (Spot Token) → Paper (Spot Kind)
 kindsOf (gives (spot t first next)) = gives (spot (kindOf t) first next)
 kindsOf more = more
 kindsOf (refused n vs) = refused n vs
+
+-- where the bytes of a string stand; no other token has any
+abbrev pub extentOf : Token → Extent
+extentOf BeginAttributes = extent.None
+extentOf EndAttributes = extent.None
+extentOf BeginList = extent.None
+extentOf EndList = extent.None
+extentOf BeginMap = extent.None
+extentOf EndMap = extent.None
+extentOf (String s n) = extent.Plain s n
+extentOf (Escaped s n) = extent.Quoted s n
+extentOf (Int64 z) = extent.None
+extentOf (Uint64 n) = extent.None
+extentOf (Double x b) = extent.None
+extentOf (Decimal s n) = extent.None
+extentOf (Boolean q) = extent.None
+extentOf Entity = extent.None
+extentOf KeyValueSeparator = extent.None
+extentOf ItemSeparator = extent.None

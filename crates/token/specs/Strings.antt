@@ -2,10 +2,14 @@
 use Prim.Native.Nat.{ℕ}
 use mathlib.Core.List.{List, [], _∷_, _++_}
 use lib.Dec.{ltb}
-use lib.ListN.{length, drop}
+use lib.ListN.{length, take, drop}
 use Rattle.refusal.specs.Numbers.{notString, beyondSlice, shortOutput}
-use Rattle.refusal.specs.Paper.{Paper, gives, more, refused, Got, got, pick}
+use Rattle.refusal.specs.Paper.{Paper, gives, more, refused, Got, got, Spot, spot, pick}
 use Rattle.refusal.specs.Meaning.{refusalMeaning}
+use Rattle.token.specs.declared.Token.{Token}
+use Rattle.token.specs.declared.Extent.{Extent}
+use Rattle.token.specs.declared.Extent.the-variants.{Plain, Quoted, None}
+use Rattle.token.specs.Meaning.{extentOf}
 use Rattle.token.specs.declared.Unescaped.{Unescaped}
 use Rattle.token.specs.declared.Unescaped.the-variants.{Bytes, Incomplete, Refused, Beyond, NotString, Short}
 
@@ -31,3 +35,15 @@ unfoldable pub bytesWritten : Paper (Got (List ℕ)) → List ℕ → List ℕ
 bytesWritten (gives (got bytes next)) out = pick (ltb (length out) (length bytes)) out (bytes ++ drop (length bytes) out)
 bytesWritten more out = out
 bytesWritten (refused n vs) out = out
+
+-- the bytes of a string that stands in the input as it is, and the place after it; 14 for any other token
+abbrev pub stringOf : List ℕ → ℕ → Extent → Paper (Got (List ℕ))
+stringOf s next (Plain start len) = gives (got (take len (drop start s)) next)
+stringOf s next (Quoted start len) = refused notString []
+stringOf s next None = refused notString []
+
+-- 26 and the token's own answer go before 14
+abbrev pub stringFound : List ℕ → Paper (Spot Token) → Paper (Got (List ℕ))
+stringFound s (gives (spot t first next)) = stringOf s next (extentOf t)
+stringFound s more = more
+stringFound s (refused n vs) = refused n vs

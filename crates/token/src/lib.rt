@@ -1,7 +1,8 @@
 // Tokens: the smallest parts of YSON that mean something, and what reading one at a place answers.
 // The cases are those of the Rust's `Token`; where that holds bytes, these hold the place and the length of the bytes in the input.
 ghost use mathlib.Core.Path.{_≡_};
-ghost use Rattle.token.specs.Meaning.{kindOf};
+ghost use Rattle.token.specs.Meaning.{kindOf, extentOf};
+ghost use Rattle.token.specs.Marks.{markOf};
 use refusal::Refusal;
 
 pub enum Token {
@@ -50,7 +51,41 @@ pub enum Kind {
     Semicolon,
 }
 
+// Where the bytes of a string stand.
+pub enum Extent {
+    // They are the input's own.
+    Plain { start: usize, len: usize },
+    // They stand between quotes, with escapes to undo.
+    Quoted { start: usize, len: usize },
+    // The token is no string.
+    None,
+}
+
 impl Token {
+    // Where the bytes of a string token stand.
+    pub fn extent(self) -> Extent
+        ensures { λ r. ⌜ r ≡ extentOf self ⌝ }
+    {
+        match self {
+            Token::BeginAttributes => Extent::None,
+            Token::EndAttributes => Extent::None,
+            Token::BeginList => Extent::None,
+            Token::EndList => Extent::None,
+            Token::BeginMap => Extent::None,
+            Token::EndMap => Extent::None,
+            Token::String { start, len } => Extent::Plain { start, len },
+            Token::Escaped { start, len } => Extent::Quoted { start, len },
+            Token::Int64(_) => Extent::None,
+            Token::Uint64(_) => Extent::None,
+            Token::Double { value: _, bits: _ } => Extent::None,
+            Token::Decimal { start: _, len: _ } => Extent::None,
+            Token::Boolean(_) => Extent::None,
+            Token::Entity => Extent::None,
+            Token::KeyValueSeparator => Extent::None,
+            Token::ItemSeparator => Extent::None,
+        }
+    }
+
     // What the scan sees of a token.
     pub fn kind(self) -> Kind
         ensures { λ r. ⌜ r ≡ kindOf self ⌝ }
@@ -73,6 +108,48 @@ impl Token {
             Token::KeyValueSeparator => Kind::Equals,
             Token::ItemSeparator => Kind::Semicolon,
         }
+    }
+}
+
+// Whether a byte is a token by itself, in both formats alike.
+pub enum Mark {
+    Is { token: Token },
+    Not,
+}
+
+// The token that a byte is by itself: one of `# < > [ ] { } = ;`.
+pub fn mark_of(b: u8) -> Mark
+    ensures { λ r. ⌜ r ≡ markOf b ⌝ }
+{
+    match b {
+        b'#' => Mark::Is {
+            token: Token::Entity,
+        },
+        b';' => Mark::Is {
+            token: Token::ItemSeparator,
+        },
+        b'<' => Mark::Is {
+            token: Token::BeginAttributes,
+        },
+        b'=' => Mark::Is {
+            token: Token::KeyValueSeparator,
+        },
+        b'>' => Mark::Is {
+            token: Token::EndAttributes,
+        },
+        b'[' => Mark::Is {
+            token: Token::BeginList,
+        },
+        b']' => Mark::Is {
+            token: Token::EndList,
+        },
+        b'{' => Mark::Is {
+            token: Token::BeginMap,
+        },
+        b'}' => Mark::Is {
+            token: Token::EndMap,
+        },
+        _ => Mark::Not,
     }
 }
 

@@ -7,14 +7,14 @@ use mathlib.Core.List.{List, [], _∷_}
 use Prim.Native.Nat.{ℕ, zero, suc, _+_, _*_, _%_, _^_, _≤_, _<_, zero-le}
 use native.Mathlib.Nat.{pow-suc, mul-assoc, pow-le-pow-right, le-trans}
 use native.Mathlib.Omega.{arith}
-use lib.ListN.{length, take, drop, getD}
-use lib.Seq.{length-take-le}
+use lib.ListN.{length, take, drop, getD, length-drop}
+use lib.Seq.{length-take-le, getD-drop}
 use lib.Dec.{leb, ltb, lit<}
 use borrow.Author.Tests.{lt-ltb, le-ltb, le-leb, lt-leb}
 use Rattle.refusal.specs.Numbers.{longVarint, wideVarint, beyondSlice}
 use Rattle.refusal.specs.Paper.{Paper, gives, more, refused, Got, got, pick}
 use Rattle.refusal.proofs.Cases.{either}
-use Rattle.varint.specs.Varint.{run, number, tenthIsWide, eleventhIsThere, uvarint, uvarintAt}
+use Rattle.varint.specs.Varint.{run, number, tenthIsWide, eleventhIsThere, uvarint, uvarintAt, uvarintEnd}
 
 -- a number and the place after it, as an answer
 abbrev pub giving : {A : Type 0} → A → ℕ → Paper (Got A)
@@ -143,3 +143,24 @@ at-is s at h = rw (le-ltb (length s) at h)
 pub at-beyond : (s : List ℕ) (at : ℕ) → length s < at → uvarintAt s at ≡ refused beyondSlice []
 unfolding uvarintAt
 at-beyond s at h = rw (lt-ltb (length s) at h)
+
+-- a tenth byte of 2 or more ends no number
+pub no-end : (at : ℕ) (t : List ℕ) → 9 ≤ run t → 9 < length t → 2 ≤ getD t 9 0 → getD t 9 0 < 256 → uvarintEnd (uvarint at t) ≡ 0
+no-end at t p q h k =
+    ⊎-elim (λ w. ap uvarintEnd (is-over at t p q (omega arith)))
+    (λ w.
+    let r = run-more 9 t p q (omega arith) in
+    ⊎-elim (λ l. ap uvarintEnd (is-long at t r (omega arith) (omega arith))) (λ l. ap uvarintEnd (is-more-ten at t (omega arith) (omega arith) (omega arith)))
+    (either 11 (length t)))
+    (either 2 (getD t 9 0 % 128))
+
+-- a first byte without the top bit is the whole number
+pub one-byte : (s : List ℕ) (at : ℕ) → at < length s → getD s at 0 < 128 → uvarintAt s at ≡ giving (getD s at 0) (at + 1)
+unfolding number
+one-byte s at h k =
+    let t = drop at s in
+    let l = length-drop at s in
+    let z : at + 0 ≡ at = omega arith in
+    let e : getD t 0 0 ≡ getD s at 0 = getD-drop at s 0 0 ∙ ap (λ (i : ℕ). getD s i 0) z in
+    let v : 0 + getD t 0 0 % 128 * 128 ^ 0 ≡ getD s at 0 = omega arith in
+    at-is s at (omega arith) ∙ is-value at 0 t (lit< tt) zero-le (omega arith) (omega arith) ∙ ap (λ (n : ℕ). giving n (at + 1)) v

@@ -13,7 +13,7 @@ use borrow.Author.Tests.{lt-ltb, le-ltb, le-leb, lt-leb, leb-true, leb-false, lt
 use Rattle.refusal.specs.Numbers.{longVarint, wideVarint, beyondSlice}
 use Rattle.refusal.specs.Paper.{Paper, gives, more, refused, Got, got, pick}
 use Rattle.refusal.proofs.Cases.{either}
-use Rattle.varint.specs.Varint.{run, number, tenthIsWide, eleventhIsThere, uvarint, uvarintAt}
+use Rattle.varint.specs.Varint.{run, number, tenthIsWide, eleventhIsThere, runsOut, uvarint, uvarintAt}
 use Rattle.varint.specs.Write.{encode, writeAnswer, writeBytes}
 use Rattle.varint.proofs.Read.{giving, run-yes, run-no, no-four, no-four-yet, no-three-yet, number-take, number-lt, sum-lt, at-is}
 use Rattle.varint.proofs.Write.{last, step}
@@ -168,3 +168,34 @@ written-back at t v n f e h =
     let p = read-is at t v n e in
     let l : length (encode v) ≡ suc (run t) = omega arith in
     rw l (sym (ap encode (p .0)) ∙ back t f (p .2) (rw (p .0) l))
+
+-- a place within the slice is never beyond it: what is refused there carries a place
+pub never-beyond : (s : List ℕ) (at n : ℕ) → at ≤ length s → uvarintAt s at ≡ refused n [] → ⊥
+unfolding uvarint
+never-beyond s at n h e = no (tenthIsWide t) (eleventhIsThere t) (runsOut t) (number (take (suc (run t)) t)) (at + suc (run t)) (sym (at-is s at h) ∙ e)
+  where
+    t : List ℕ
+    t = drop at s
+
+    no : (q₁ q₂ q₃ : Bool) (v m : ℕ)
+        → pick q₁ (refused wideVarint (at ∷ [])) (pick q₂ (refused longVarint (at ∷ [])) (pick q₃ more (giving v m))) ≡ refused n [] → ⊥
+    no true q₂ q₃ v m x = let z : _≡_ {A = ℕ} 0 1 = cc in omega arith
+    no false true q₃ v m x = let z : _≡_ {A = ℕ} 0 1 = cc in omega arith
+    no false false true v m x = let z : _≡_ {A = ℕ} 0 1 = cc in omega arith
+    no false false false v m x = let z : _≡_ {A = ℕ} 0 1 = cc in omega arith
+
+-- what is refused within the slice is 3 or 4
+pub refused-number : (s : List ℕ) (at n : ℕ) (vs : List ℕ) → at ≤ length s → uvarintAt s at ≡ refused n vs → (1 ≤ n) × (n ≤ 4)
+unfolding uvarint
+refused-number s at n vs h e =
+    which (tenthIsWide t) (eleventhIsThere t) (runsOut t) (number (take (suc (run t)) t)) (at + suc (run t)) (sym (at-is s at h) ∙ e)
+  where
+    t : List ℕ
+    t = drop at s
+
+    which : (q₁ q₂ q₃ : Bool) (v m : ℕ)
+        → pick q₁ (refused wideVarint (at ∷ [])) (pick q₂ (refused longVarint (at ∷ [])) (pick q₃ more (giving v m))) ≡ refused n vs → (1 ≤ n) × (n ≤ 4)
+    which true q₂ q₃ v m x = let z : wideVarint ≡ n = cc in (omega arith, omega arith)
+    which false true q₃ v m x = let z : longVarint ≡ n = cc in (omega arith, omega arith)
+    which false false true v m x = let z : _≡_ {A = ℕ} 0 1 = cc in absurd (omega arith)
+    which false false false v m x = let z : _≡_ {A = ℕ} 0 1 = cc in absurd (omega arith)

@@ -42,3 +42,9 @@ uvarint at t =
 -- the varint at a place of s
 unfoldable pub uvarintAt : List ℕ → ℕ → Paper (Got ℕ)
 uvarintAt s at = pick (ltb (length s) at) (refused beyondSlice []) (uvarint at (drop at s))
+
+-- the place after the number; 0 where no whole one stands there
+abbrev pub uvarintEnd : Paper (Got ℕ) → ℕ
+uvarintEnd (gives (got v next)) = next
+uvarintEnd more = 0
+uvarintEnd (refused n vs) = 0

@@ -4,7 +4,7 @@
 ghost use mathlib.Core.Path.{_≡_};
 ghost use lib.ListN.{length};
 ghost use lib.Signed.{mag};
-ghost use Rattle.varint.specs.Varint.{uvarintAt};
+ghost use Rattle.varint.specs.Varint.{uvarintAt, uvarintEnd};
 ghost use Rattle.varint.specs.Zigzag.{signed, twos, zigzag, varintAt};
 ghost use Rattle.varint.specs.Write.{encode, writeAnswer, writeBytes};
 ghost use Rattle.varint.specs.Meaning.{uvarintMeaning, varintMeaning, writtenMeaning};
@@ -92,6 +92,33 @@ pub fn read_uvarint(input: &[u8], at: usize) -> Uvarint
     Uvarint::Refused {
         refusal: Refusal::LongVarint { place: at },
     }
+}
+
+// The place after the varint that starts at `at`, whose number is not asked for; 0 where no whole one stands there.
+pub fn uvarint_end(input: &[u8], at: usize) -> usize
+    ensures { λ r. ⌜ r ≡ uvarintEnd (uvarintAt (now (input .entry)) at) ⌝ }
+{
+    if input.len() < at {
+        return 0;
+    }
+    let left = input.len() - at;
+    let mut i: usize = 0;
+    while i < 9 {
+        if left <= i {
+            return 0;
+        }
+        if input[at + i] < 128 {
+            return at + i + 1;
+        }
+        i += 1;
+    }
+    if left <= 9 {
+        return 0;
+    }
+    if input[at + 9] < 2 {
+        return at + 10;
+    }
+    0
 }
 
 // The signed number of a pattern of 64 bits, in two's complement.

@@ -1,0 +1,5 @@
+-- Laws of binary tokens.
+pub mod Nan
+pub mod Laws
+pub mod Ends
+pub mod Callers

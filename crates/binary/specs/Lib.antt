@@ -1,0 +1,4 @@
+-- The definitions that the contracts of this crate cite, in the order to read them.
+pub mod Little
+pub mod Binary
+pub mod Strings

@@ -1,0 +1,2 @@
+-- Laws of a part that is handed out.
+pub mod Laws

@@ -1,0 +1,2 @@
+-- Laws of tokens and of the answers about them.
+pub mod Answers
