@@ -23,71 +23,55 @@ use Rattle.token.specs.declared.Token.the-variants.{String, Int64, Uint64, Doub
 use Rattle.token.specs.declared.Mark.{Mark}
 use Rattle.token.specs.declared.Mark.the-variants.{Is, Not}
 use Rattle.token.specs.Marks.{markOf, ofMark}
+use Rattle.token.proofs.Sound.{Sound, pick-sound, one-sound, mark-sound}
 use Rattle.binary.specs.Little.{little8}
 use Rattle.binary.specs.Binary.{ofSize, ofLength, ofVarint, doubleAt, marked, binaryFrom}
 use Rattle.binary.proofs.Laws.{ended, inside}
 
 -- ---- a token lies within the bytes, and a refusal stands at its place
 
--- of an answer about the token at a place
-abbrev pub Sound : List ℕ → ℕ → Paper (Spot Token) → Type 0
-Sound s at (gives (spot t first next)) = (first ≡ at) × (at < next) × (next ≤ length s)
-Sound s at more = Unit {0}
-Sound s at (refused n vs) = (1 ≤ n) × (n ≤ 4) × (vs ≡ at ∷ [])
-
-pick-sound : (s : List ℕ) (at : ℕ) (q : Bool) (a b : Paper (Spot Token)) → Sound s at a → Sound s at b → Sound s at (pick q a b)
-pick-sound s at true a b x y = x
-pick-sound s at false a b x y = y
-
 module _ (s : List ℕ) (at : ℕ) (h : at < length s) where
   fits : (t : Token) (q : Bool) (left need next : ℕ) → ltb left need ≡ q → (need ≤ left → (at < next) × (next ≤ length s))
-      → Sound s at (pick q more (gives (spot t at next)))
+      → Sound (length s) at (pick q more (gives (spot t at next)))
   fits t true left need next e f = tt
   fits t false left need next e f = let g = f (ltb-false left need e) in (refl, g .0, g .1)
 
-  size-sound : (n : ℕ) → at < n → n ≤ length s → (z : ℤ) → Sound s at (ofSize s at n z)
+  size-sound : (n : ℕ) → at < n → n ≤ length s → (z : ℤ) → Sound (length s) at (ofSize s at n z)
   size-sound n p q (pos k) = fits (String n k) (ltb (length s - n) k) (length s - n) k (n + k) refl (λ g. (omega arith, omega arith))
   size-sound n p q (negsuc k) = (lit≤ tt, lit≤ tt, refl)
 
-  string-sound : (p : Paper (Got ℕ)) → uvarintAt s (at + 1) ≡ p → Sound s at (ofLength s at (signedAnswer p))
+  string-sound : (p : Paper (Got ℕ)) → uvarintAt s (at + 1) ≡ p → Sound (length s) at (ofLength s at (signedAnswer p))
   string-sound (gives (got v n)) e = let w = within s (at + 1) v n e in size-sound n (omega arith) (w .1) (signed v)
   string-sound more e = tt
-  string-sound (refused n vs) e = let w = refused-number s (at + 1) n vs (omega arith) e in (w .0, w .1, refl)
+  string-sound (refused n vs) e = let w = refused-number s (at + 1) n vs (omega arith) e in (w .0, omega arith, refl)
 
-  int64-sound : (p : Paper (Got ℕ)) → uvarintAt s (at + 1) ≡ p → Sound s at (ofVarint at Int64 (signedAnswer p))
+  int64-sound : (p : Paper (Got ℕ)) → uvarintAt s (at + 1) ≡ p → Sound (length s) at (ofVarint at Int64 (signedAnswer p))
   int64-sound (gives (got v n)) e = let w = within s (at + 1) v n e in (refl, omega arith, w .1)
   int64-sound more e = tt
-  int64-sound (refused n vs) e = let w = refused-number s (at + 1) n vs (omega arith) e in (w .0, w .1, refl)
+  int64-sound (refused n vs) e = let w = refused-number s (at + 1) n vs (omega arith) e in (w .0, omega arith, refl)
 
-  uint64-sound : (p : Paper (Got ℕ)) → uvarintAt s (at + 1) ≡ p → Sound s at (ofVarint at Uint64 p)
+  uint64-sound : (p : Paper (Got ℕ)) → uvarintAt s (at + 1) ≡ p → Sound (length s) at (ofVarint at Uint64 p)
   uint64-sound (gives (got v n)) e = let w = within s (at + 1) v n e in (refl, omega arith, w .1)
   uint64-sound more e = tt
-  uint64-sound (refused n vs) e = let w = refused-number s (at + 1) n vs (omega arith) e in (w .0, w .1, refl)
+  uint64-sound (refused n vs) e = let w = refused-number s (at + 1) n vs (omega arith) e in (w .0, omega arith, refl)
 
-  double-sound : Sound s at (doubleAt s at)
+  double-sound : Sound (length s) at (doubleAt s at)
   unfolding doubleAt
   double-sound =
       fits (Double (ofBits binary64 (little8 s (at + 1))) (little8 s (at + 1))) (ltb (length s - at) 9) (length s - at) 9 (at + 9) refl
       (λ g. (omega arith, omega arith))
 
-  one-sound : (t : Token) → Sound s at (gives (spot t at (at + 1)))
-  one-sound t = (refl, omega arith, omega arith)
-
-  mark-sound : (m : Mark) → Sound s at (ofMark at m)
-  mark-sound (Is t) = one-sound t
-  mark-sound Not = (lit≤ tt, lit≤ tt, refl)
-
-  marked-sound : (b : ℕ) → Sound s at (marked s at b)
+  marked-sound : (b : ℕ) → Sound (length s) at (marked s at b)
   unfolding marked varintAt
   marked-sound b =
-      pick-sound s at (eqb b 1) _ _ (string-sound (uvarintAt s (at + 1)) refl)
-      (pick-sound s at (eqb b 2) _ _ (int64-sound (uvarintAt s (at + 1)) refl)
-      (pick-sound s at (eqb b 3) _ _ double-sound
-      (pick-sound s at (eqb b 4) _ _ (one-sound (Boolean false))
-      (pick-sound s at (eqb b 5) _ _ (one-sound (Boolean true))
-      (pick-sound s at (eqb b 6) _ _ (uint64-sound (uvarintAt s (at + 1)) refl) (mark-sound (markOf b)))))))
+      pick-sound (length s) at (eqb b 1) _ _ (string-sound (uvarintAt s (at + 1)) refl)
+      (pick-sound (length s) at (eqb b 2) _ _ (int64-sound (uvarintAt s (at + 1)) refl)
+      (pick-sound (length s) at (eqb b 3) _ _ double-sound
+      (pick-sound (length s) at (eqb b 4) _ _ (one-sound (length s) at h (Boolean false))
+      (pick-sound (length s) at (eqb b 5) _ _ (one-sound (length s) at h (Boolean true))
+      (pick-sound (length s) at (eqb b 6) _ _ (uint64-sound (uvarintAt s (at + 1)) refl) (mark-sound (length s) at h (markOf b)))))))
 
-pub sound : (s : List ℕ) (at : ℕ) → Sound s at (binaryFrom s at)
+pub sound : (s : List ℕ) (at : ℕ) → Sound (length s) at (binaryFrom s at)
 sound s at =
     ⊎-elim (λ h. rw (inside s at h) (marked-sound s at h (getD s at 0))) (λ h. rw (ended s at (omega arith)) tt) (either (suc at) (length s))
 

@@ -20,14 +20,10 @@ use Rattle.token.specs.declared.Mark.the-variants.{Is, Not}
 use Rattle.token.specs.Meaning.{kindsOf}
 use Rattle.token.specs.Marks.{markOf, ofMark}
 use Rattle.token.specs.Ends.{endOf, stringEnd, scalarEnd}
+use Rattle.token.proofs.Ends.{holds, mark-no-string, mark-no-scalar}
 use Rattle.binary.specs.Little.{little8}
 use Rattle.binary.specs.Binary.{ofSize, ofLength, ofVarint, doubleAt, marked}
 use Rattle.binary.proofs.Laws.{unmarked}
-
--- what holds of both holds of the one that is picked
-holds : {A : Type 0} (P : A → Type 0) (q : Bool) (a b : A) → P a → P b → P (pick q a b)
-holds P true a b x y = x
-holds P false a b x y = y
 
 abbrev Ends : Paper (Spot Token) → Type 0
 Ends p = scalarEnd (kindsOf p) ≡ endOf p
@@ -116,19 +112,8 @@ module _ (s : List ℕ) (at : ℕ) where
   double-no =
       holds NoString (ltb (length s - at) 9) more (gives (spot (Double (ofBits binary64 (little8 s (at + 1))) (little8 s (at + 1))) at (at + 9))) refl refl
 
-  abbrev MarkNo : Mark → Type 0
-  MarkNo m = NoString (ofMark at m)
-
-  abbrev MarkRest : Mark → Type 0
-  MarkRest m = scalarEnd (kindsOf (ofMark at m)) ≡ 0
-
   abbrev MarkEnds : Mark → Type 0
   MarkEnds m = Ends (ofMark at m)
-
-  mark-no : (b : ℕ) → NoString (ofMark at (markOf b))
-  unfolding markOf
-  mark-no b =
-      holds MarkNo (eqb b 0x23) _ _ refl (holds MarkNo (eqb b 0x3B) _ _ refl (holds MarkNo (eqb b 0x3C) _ _ refl (holds MarkNo (eqb b 0x3D) _ _ refl (holds MarkNo (eqb b 0x3E) _ _ refl (holds MarkNo (eqb b 0x5B) _ _ refl (holds MarkNo (eqb b 0x5D) _ _ refl (holds MarkNo (eqb b 0x7B) _ _ refl (holds MarkNo (eqb b 0x7D) _ _ refl refl))))))))
 
   pub no-string : (b : ℕ) → (b ≡ 1 → ⊥) → NoString (marked s at b)
   unfolding marked
@@ -138,16 +123,13 @@ module _ (s : List ℕ) (at : ℕ) where
       (holds NoString (eqb b 3) _ _ double-no
       (holds NoString (eqb b 4) _ _ refl
       (holds NoString (eqb b 5) _ _ refl
-      (holds NoString (eqb b 6) _ _ (uint64-no (uvarintAt s (at + 1))) (mark-no b))))))
+      (holds NoString (eqb b 6) _ _ (uint64-no (uvarintAt s (at + 1))) (mark-no-string at b))))))
 
   -- ---- no scalar among the other marks, and nothing else ends
 
   pub no-scalar : (b : ℕ) → (b ≡ 1 → ⊥) → (b ≡ 2 → ⊥) → (b ≡ 3 → ⊥) → (b ≡ 4 → ⊥) → (b ≡ 5 → ⊥) → (b ≡ 6 → ⊥) → (b ≡ 0x23 → ⊥)
       → scalarEnd (kindsOf (marked s at b)) ≡ 0
-  unfolding markOf
-  no-scalar b h₁ h₂ h₃ h₄ h₅ h₆ h₇ =
-      rw (unmarked s at b h₁ h₂ h₃ h₄ h₅ h₆, ne-eqb b 0x23 h₇)
-      (holds MarkRest (eqb b 0x3B) _ _ refl (holds MarkRest (eqb b 0x3C) _ _ refl (holds MarkRest (eqb b 0x3D) _ _ refl (holds MarkRest (eqb b 0x3E) _ _ refl (holds MarkRest (eqb b 0x5B) _ _ refl (holds MarkRest (eqb b 0x5D) _ _ refl (holds MarkRest (eqb b 0x7B) _ _ refl (holds MarkRest (eqb b 0x7D) _ _ refl refl))))))))
+  no-scalar b h₁ h₂ h₃ h₄ h₅ h₆ h₇ = ap (λ (p : Paper (Spot Token)). scalarEnd (kindsOf p)) (unmarked s at b h₁ h₂ h₃ h₄ h₅ h₆) ∙ mark-no-scalar at b h₇
 
   pub rest-ends : (b : ℕ) → (b ≡ 0x3B → ⊥) → (b ≡ 0x3C → ⊥) → (b ≡ 0x3D → ⊥) → (b ≡ 0x3E → ⊥) → (b ≡ 0x5B → ⊥) → (b ≡ 0x5D → ⊥) → (b ≡ 0x7B → ⊥) → (b ≡ 0x7D → ⊥)
       → Ends (marked s at b)

@@ -1,2 +1,4 @@
 -- Laws of tokens and of the answers about them.
 pub mod Answers
+pub mod Sound
+pub mod Ends

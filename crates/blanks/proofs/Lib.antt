@@ -1,0 +1,3 @@
+-- Laws of what text ignores: Laws for callers, Ways for the code.
+pub mod Laws
+pub mod Ways

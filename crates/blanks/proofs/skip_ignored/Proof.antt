@@ -1,0 +1,194 @@
+-- `skip_ignored` meets its contract: in each of its three loops the place that it goes to is the one from the start.
+use mathlib.Core.Path.{_≡_, refl, sym, ap, _∙_}
+use mathlib.Core.Bool.{true, false}
+use Prim.Native.Nat.{ℕ, _≤_, _-_}
+use native.Mathlib.Omega.{arith}
+use borrow.Author.Needs.{needs}
+use lib.ListN.{length, getD}
+use Rattle.blanks.specs.Skip.{isBlank, skipFrom}
+use Rattle.blanks.proofs.Ways.{blank-above, lineFrom, blockFrom, blanks-more, blanks-end, blanks-stop, blanks-lone, open-line, open-block, open-none, line-end, line-more, line-out, block-end, block-star, block-last, block-more, block-out}
+use Rattle.blanks.proofs.skip_ignored.Statement.{statement}
+use Rattle.blanks.proofs.skip_ignored.Tie as tie
+
+abbrev Inv-line : tie.InvT-line
+Inv-line input at p₀ b n c p = (p₀ ≤ p) × (lineFrom input p ≡ skipFrom input at)
+
+abbrev μ-line : tie.MeasureT-line
+μ-line input at p₀ b n c p = length input - p
+
+abbrev Inv-block : tie.InvT-block
+Inv-block input at p₀ b n c p = (p₀ ≤ p) × (blockFrom input p ≡ skipFrom input at)
+
+abbrev μ-block : tie.MeasureT-block
+μ-block input at p₀ b n c p = length input - p
+
+abbrev Inv-blanks : tie.InvT-blanks
+Inv-blanks input at p₀ p = skipFrom input p ≡ skipFrom input at
+
+abbrev μ-blanks : tie.MeasureT-blanks
+μ-blanks input at p₀ p = length input - p
+
+blanks-holds : tie.Need-blanks-holds Inv-line μ-line Inv-block μ-block Inv-blanks μ-blanks
+blanks-holds c = refl
+
+shared-slice-read-b :
+    tie.Need-shared-slice-read-b Inv-line μ-line Inv-block μ-block Inv-blanks μ-blanks
+shared-slice-read-b c = search needs
+
+is-blank-requires :
+    tie.Need-is-blank-requires Inv-line μ-line Inv-block μ-block Inv-blanks μ-blanks
+is-blank-requires c κs = search needs
+
+add-p : tie.Need-add-p Inv-line μ-line Inv-block μ-block Inv-blanks μ-blanks
+add-p c = search needs
+
+blanks-less : tie.Need-blanks-less Inv-line μ-line Inv-block μ-block Inv-blanks μ-blanks
+blanks-less c = search needs
+
+blanks-again : tie.Need-blanks-again Inv-line μ-line Inv-block μ-block Inv-blanks μ-blanks
+blanks-again c = sym (blanks-more _ (c .before .before .before .before .before .blanks .p) (omega arith) (sym (c .before .is-blank .ensures) ∙ c .if2 .taken)) ∙ c .before .before .before .before .before .blanks .inv
+
+add-n : tie.Need-add-n Inv-line μ-line Inv-block μ-block Inv-blanks μ-blanks
+add-n c = search needs
+
+shared-slice-read-c :
+    tie.Need-shared-slice-read-c Inv-line μ-line Inv-block μ-block Inv-blanks μ-blanks
+shared-slice-read-c c = search needs
+
+add-p-2 : tie.Need-add-p-2 Inv-line μ-line Inv-block μ-block Inv-blanks μ-blanks
+add-p-2 c = search needs
+
+line-holds : tie.Need-line-holds Inv-line μ-line Inv-block μ-block Inv-blanks μ-blanks
+line-holds c = (search needs, sym (open-line _ _ (omega arith) (blank-above _ (omega arith)) (c .before .before .before .if3 .left) (c .if5 .taken)) ∙ c .before .before .before .before .before .before .before .blanks .inv)
+
+shared-slice-read-d :
+    tie.Need-shared-slice-read-d Inv-line μ-line Inv-block μ-block Inv-blanks μ-blanks
+shared-slice-read-d c = search needs
+
+add-p-3 : tie.Need-add-p-3 Inv-line μ-line Inv-block μ-block Inv-blanks μ-blanks
+add-p-3 c = search needs
+
+blanks-less-2 : tie.Need-blanks-less-2 Inv-line μ-line Inv-block μ-block Inv-blanks μ-blanks
+blanks-less-2 c = search needs
+
+blanks-again-2 : tie.Need-blanks-again-2 Inv-line μ-line Inv-block μ-block Inv-blanks μ-blanks
+blanks-again-2 c = sym (line-end _ _ (omega arith) (c .if6 .taken)) ∙ c .before .before .before .line .inv .1
+
+line-less : tie.Need-line-less Inv-line μ-line Inv-block μ-block Inv-blanks μ-blanks
+line-less c = search needs
+
+line-again : tie.Need-line-again Inv-line μ-line Inv-block μ-block Inv-blanks μ-blanks
+line-again c = (search needs, sym (line-more _ _ (omega arith) (c .if6 .left)) ∙ c .before .before .before .line .inv .1)
+
+add-p-4 : tie.Need-add-p-4 Inv-line μ-line Inv-block μ-block Inv-blanks μ-blanks
+add-p-4 c = search needs
+
+block-holds : tie.Need-block-holds Inv-line μ-line Inv-block μ-block Inv-blanks μ-blanks
+block-holds c = (search needs, sym (open-block _ _ (omega arith) (blank-above _ (omega arith)) (c .before .before .before .before .if3 .left) (c .if7 .left)) ∙ c .before .before .before .before .before .before .before .before .blanks .inv)
+
+shared-slice-read-d-2 :
+    tie.Need-shared-slice-read-d-2 Inv-line μ-line Inv-block μ-block Inv-blanks μ-blanks
+shared-slice-read-d-2 c = search needs
+
+add-p-5 : tie.Need-add-p-5 Inv-line μ-line Inv-block μ-block Inv-blanks μ-blanks
+add-p-5 c = search needs
+
+shared-slice-read-f :
+    tie.Need-shared-slice-read-f Inv-line μ-line Inv-block μ-block Inv-blanks μ-blanks
+shared-slice-read-f c = search needs
+
+add-p-6 : tie.Need-add-p-6 Inv-line μ-line Inv-block μ-block Inv-blanks μ-blanks
+add-p-6 c = search needs
+
+blanks-less-3 : tie.Need-blanks-less-3 Inv-line μ-line Inv-block μ-block Inv-blanks μ-blanks
+blanks-less-3 c = search needs
+
+blanks-again-3 : tie.Need-blanks-again-3 Inv-line μ-line Inv-block μ-block Inv-blanks μ-blanks
+blanks-again-3 c = sym (block-end _ _ (omega arith) (c .before .before .before .if8 .taken) (c .if10 .taken)) ∙ c .before .before .before .before .before .before .block .inv .1
+
+block-less : tie.Need-block-less Inv-line μ-line Inv-block μ-block Inv-blanks μ-blanks
+block-less c = search needs
+
+block-again : tie.Need-block-again Inv-line μ-line Inv-block μ-block Inv-blanks μ-blanks
+block-again c = (search needs, sym (block-star _ _ (omega arith) (c .if10 .left)) ∙ c .before .before .before .before .before .before .block .inv .1)
+
+block-less-2 : tie.Need-block-less-2 Inv-line μ-line Inv-block μ-block Inv-blanks μ-blanks
+block-less-2 c = search needs
+
+block-again-2 : tie.Need-block-again-2 Inv-line μ-line Inv-block μ-block Inv-blanks μ-blanks
+block-again-2 c = (search needs, sym (block-last _ _ (omega arith) (omega arith)) ∙ c .before .before .before .before .block .inv .1)
+
+block-less-3 : tie.Need-block-less-3 Inv-line μ-line Inv-block μ-block Inv-blanks μ-blanks
+block-less-3 c = search needs
+
+block-again-3 : tie.Need-block-again-3 Inv-line μ-line Inv-block μ-block Inv-blanks μ-blanks
+block-again-3 c = (search needs, sym (block-more _ _ (omega arith) (c .if8 .left)) ∙ c .before .before .before .block .inv .1)
+
+returns : tie.Need-returns Inv-line μ-line Inv-block μ-block Inv-blanks μ-blanks
+returns c = sym (blanks-end _ _ (omega arith)) ∙ c .before .blanks .inv
+
+returns-2 : tie.Need-returns-2 Inv-line μ-line Inv-block μ-block Inv-blanks μ-blanks
+returns-2 c = sym (blanks-stop _ _ (omega arith) (sym (c .before .is-blank .ensures) ∙ c .if2 .left) (λ e. omega arith)) ∙ c .before .before .before .before .before .blanks .inv
+
+returns-3 : tie.Need-returns-3 Inv-line μ-line Inv-block μ-block Inv-blanks μ-blanks
+returns-3 c = sym (blanks-stop _ _ (omega arith) (blank-above _ (omega arith)) (c .if3 .taken)) ∙ c .before .before .before .before .blanks .inv
+
+returns-4 : tie.Need-returns-4 Inv-line μ-line Inv-block μ-block Inv-blanks μ-blanks
+returns-4 c = sym (blanks-lone _ _ (omega arith) (blank-above _ (omega arith)) (omega arith)) ∙ c .before .before .before .before .before .blanks .inv
+
+returns-5 : tie.Need-returns-5 Inv-line μ-line Inv-block μ-block Inv-blanks μ-blanks
+returns-5 c = sym (line-out _ _ (omega arith)) ∙ c .before .line .inv .1
+
+returns-6 : tie.Need-returns-6 Inv-line μ-line Inv-block μ-block Inv-blanks μ-blanks
+returns-6 c = sym (open-none _ _ (omega arith) (blank-above _ (omega arith)) (c .before .before .before .before .if3 .left) (c .before .if5 .left) (c .if7 .taken)) ∙ c .before .before .before .before .before .before .before .before .blanks .inv
+
+returns-7 : tie.Need-returns-7 Inv-line μ-line Inv-block μ-block Inv-blanks μ-blanks
+returns-7 c = sym (block-out _ _ (omega arith)) ∙ c .before .block .inv .1
+
+pub skip-ignored-spec : {M : Type 1} → statement M
+skip-ignored-spec =
+    tie.close
+    (tie.spec
+    Inv-line
+    μ-line
+    Inv-block
+    μ-block
+    Inv-blanks
+    μ-blanks
+    blanks-holds
+    shared-slice-read-b
+    is-blank-requires
+    add-p
+    blanks-less
+    blanks-again
+    add-n
+    shared-slice-read-c
+    add-p-2
+    line-holds
+    shared-slice-read-d
+    add-p-3
+    blanks-less-2
+    blanks-again-2
+    line-less
+    line-again
+    add-p-4
+    block-holds
+    shared-slice-read-d-2
+    add-p-5
+    shared-slice-read-f
+    add-p-6
+    blanks-less-3
+    blanks-again-3
+    block-less
+    block-again
+    block-less-2
+    block-again-2
+    block-less-3
+    block-again-3
+    returns
+    returns-2
+    returns-3
+    returns-4
+    returns-5
+    returns-6
+    returns-7)

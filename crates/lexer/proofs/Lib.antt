@@ -1,0 +1,3 @@
+-- Laws of tokens in either format.
+pub mod Laws
+pub mod Only

@@ -1,0 +1,28 @@
+-- `skip` meets its contract: nothing is ignored in binary.
+use mathlib.Core.Path.{_∙_, sym, ap}
+use denote.Ref.{now}
+use Rattle.refusal.specs.declared.Format.{Format}
+use Rattle.lexer.specs.Lexer.{skipOf}
+use borrow.Author.Needs.{needs}
+use Rattle.lexer.proofs.skip.Statement.{statement}
+use Rattle.lexer.proofs.skip.Tie as tie
+
+enum-told : tie.Need-enum-told
+enum-told c = search needs
+
+enum-told-2 : tie.Need-enum-told-2
+enum-told-2 c = search needs
+
+skip-ignored-requires : tie.Need-skip-ignored-requires
+skip-ignored-requires c κs = search needs
+
+returns : tie.Need-returns
+unfolding skipOf
+returns c = let x = c .before .before .before .args in ap (λ (f : Format). skipOf f (now (x .input)) (x .at)) (sym (c .enum-told .given .1))
+
+returns-2 : tie.Need-returns-2
+unfolding skipOf
+returns-2 c = let x = c .before .before .before .before .args in c .skip-ignored .ensures ∙ ap (λ (f : Format). skipOf f (now (x .input)) (x .at)) (sym (c .before .enum-told2 .given .1))
+
+pub skip-spec : {M : Type 1} → statement M
+skip-spec = tie.close (tie.spec enum-told enum-told-2 skip-ignored-requires returns returns-2)

@@ -1,0 +1,286 @@
+// Where does the next value end, and is there a whole one at all? The automaton of specs/Step and specs/Walk decides (`scanOf`).
+// Each token that is passed is read once, and no value is made of it; the one at which a scan stops is read again, to say why. The private
+// functions answer one number, the end of a part, or 0 where the part is not whole; then `no` and `place` say why: a refusal's number and
+// its place, or the number 0 where the bytes ended. Where the part is whole they say nothing.
+ghost use mathlib.Core.Path.{_≡_};
+ghost use Prim.Native.Nat.{_≤_, _<_};
+ghost use lib.ListN.{length};
+ghost use Rattle.lexer.specs.Lexer.{kindAt, skipOf};
+ghost use Rattle.scan.specs.Limit.{mostOpen};
+ghost use Rattle.scan.specs.Walk.{scanOf};
+ghost use Rattle.scan.specs.Meaning.{scanMeaning};
+ghost use Rattle.scan.specs.Post.{answerOf, whyOf, Tree, Begun, Attributed, Pair, Items, Pairs};
+use refusal::Format;
+use refusal::Refusal;
+use token::Read;
+
+// How many blocks may be open at once.
+const MOST_OPEN: usize = 128;
+
+// What the scan for one value answers.
+pub enum Scan {
+    // A whole value, with what is ignored before it, takes the first `len` bytes.
+    Complete { len: usize },
+    // The bytes ended inside the value, or before it.
+    Incomplete,
+    // The bytes are no value.
+    Refused { refusal: Refusal },
+}
+
+// The length of the first value of the input. The input is only read, so a refusal leaves nothing behind.
+pub fn scan_value(input: &[u8], format: Format) -> Scan
+    ensures { λ r. ⌜ scanMeaning r ≡ scanOf format (now (input .entry)) ⌝ }
+{
+    let mut no: usize = 0;
+    let mut place: usize = 0;
+    let len = scan_tree(input, 0, 0, format, &mut no, &mut place);
+    if len != 0 {
+        return Scan::Complete { len };
+    }
+    if no == 0 {
+        return Scan::Incomplete;
+    }
+    Scan::Refused {
+        refusal: refusal::refusal_of(no, place),
+    }
+}
+
+// Why no part goes on at the token at `p`: the token is not whole, or it is and it is not due, which is refused as `wrong`. The token is
+// read again here, by the full reader; this is called at most once in a scan. It answers 0.
+fn why(
+    input: &[u8],
+    p: usize,
+    wrong: usize,
+    format: Format,
+    no: &mut usize,
+    place: &mut usize,
+) -> usize
+    requires { ⌜ p < length (now input) ⌝ }
+    ensures { λ r. ⌜ answerOf r (now (no .exit)) (now (place .exit)) ≡ whyOf wrong (kindAt format (now (input .entry)) p) ⌝ }
+{
+    match lexer::next_token(input, p, format) {
+        Read::Token {
+            token: _,
+            first: _,
+            next,
+        } => {
+            *no = wrong;
+            *place = next;
+            return 0;
+        }
+        Read::Incomplete => {
+            *no = 0;
+            return 0;
+        }
+        Read::Refused { refusal } => {
+            *no = refusal.number();
+            *place = refusal.place();
+            return 0;
+        }
+        Read::Beyond => {
+            *no = 0;
+            return 0;
+        }
+    }
+}
+
+// A value: at most one attribute block, and then a scalar, a list or a map.
+fn scan_tree(
+    input: &[u8],
+    at: usize,
+    depth: usize,
+    format: Format,
+    no: &mut usize,
+    place: &mut usize,
+) -> usize
+    requires { ⌜ depth ≤ mostOpen ⌝ }
+    ensures { λ r. ⌜ Tree format (now (input .entry)) at depth (answerOf r (now (no .exit)) (now (place .exit))) ⌝ }
+{
+    let p = lexer::skip(input, at, format);
+    scan_begun(input, p, depth, false, format, no, place)
+}
+
+// The value whose first token stands at `p`; where `passed`, behind its attributes.
+fn scan_begun(
+    input: &[u8],
+    p: usize,
+    depth: usize,
+    passed: bool,
+    format: Format,
+    no: &mut usize,
+    place: &mut usize,
+) -> usize
+    requires { ⌜ (depth ≤ mostOpen) × (skipOf format (now input) p ≡ p) ⌝ }
+    ensures { λ r. ⌜ Begun format (now (input .entry)) p depth passed (answerOf r (now (no .exit)) (now (place .exit))) ⌝ }
+{
+    if input.len() <= p {
+        *no = 0;
+        return 0;
+    }
+    let b = input[p];
+    if b == b'[' {
+        if depth == MOST_OPEN {
+            *no = refusal::TOO_DEEP;
+            *place = p;
+            return 0;
+        }
+        return scan_list(input, p + 1, depth + 1, format, no, place);
+    }
+    if b == b'{' {
+        if depth == MOST_OPEN {
+            *no = refusal::TOO_DEEP;
+            *place = p;
+            return 0;
+        }
+        return scan_fragment(input, p + 1, depth + 1, false, format, no, place);
+    }
+    if b == b'<' {
+        if passed {
+            return why(input, p, refusal::NOT_VALUE, format, no, place);
+        }
+        if depth == MOST_OPEN {
+            *no = refusal::TOO_DEEP;
+            *place = p;
+            return 0;
+        }
+        return scan_attributed(input, p + 1, depth, format, no, place);
+    }
+    let end = lexer::scalar_end(input, p, format);
+    if end == 0 {
+        return why(input, p, refusal::NOT_VALUE, format, no, place);
+    }
+    end
+}
+
+// The rest of an attribute block, and the value behind it.
+fn scan_attributed(
+    input: &[u8],
+    from: usize,
+    depth: usize,
+    format: Format,
+    no: &mut usize,
+    place: &mut usize,
+) -> usize
+    requires { ⌜ depth < mostOpen ⌝ }
+    ensures { λ r. ⌜ Attributed format (now (input .entry)) from depth (answerOf r (now (no .exit)) (now (place .exit))) ⌝ }
+{
+    let end = scan_fragment(input, from, depth + 1, true, format, no, place);
+    if end == 0 {
+        return 0;
+    }
+    let p = lexer::skip(input, end, format);
+    scan_begun(input, p, depth, true, format, no, place)
+}
+
+// The rest of a list, up to and with its `]`.
+fn scan_list(
+    input: &[u8],
+    from: usize,
+    depth: usize,
+    format: Format,
+    no: &mut usize,
+    place: &mut usize,
+) -> usize
+    requires { ⌜ depth ≤ mostOpen ⌝ }
+    ensures { λ r. ⌜ Items format (now (input .entry)) from depth (answerOf r (now (no .exit)) (now (place .exit))) ⌝ }
+{
+    let mut at = from;
+    loop {
+        let p = lexer::skip(input, at, format);
+        if input.len() <= p {
+            *no = 0;
+            return 0;
+        }
+        let b = input[p];
+        if b == b']' {
+            return p + 1;
+        }
+        if b == b';' {
+            at = p + 1;
+        } else {
+            // Most items are scalars, so they are tried before the call; a block's first byte is enough to answer 0 here.
+            let end = lexer::scalar_end(input, p, format);
+            if end == 0 {
+                let next = scan_begun(input, p, depth, false, format, no, place);
+                if next == 0 {
+                    return 0;
+                }
+                at = next;
+            } else {
+                at = end;
+            }
+        }
+    }
+}
+
+// The rest of a map, up to and with its `}`, or of an attribute block, to its `>`.
+fn scan_fragment(
+    input: &[u8],
+    from: usize,
+    depth: usize,
+    attributes: bool,
+    format: Format,
+    no: &mut usize,
+    place: &mut usize,
+) -> usize
+    requires { ⌜ depth ≤ mostOpen ⌝ }
+    ensures { λ r. ⌜ Pairs format (now (input .entry)) from depth attributes (answerOf r (now (no .exit)) (now (place .exit))) ⌝ }
+{
+    let mut at = from;
+    loop {
+        let p = lexer::skip(input, at, format);
+        if input.len() <= p {
+            *no = 0;
+            return 0;
+        }
+        let b = input[p];
+        if b == b'}' {
+            if attributes {
+                return why(input, p, refusal::NOT_KEY, format, no, place);
+            }
+            return p + 1;
+        }
+        if b == b'>' {
+            if attributes {
+                return p + 1;
+            }
+            return why(input, p, refusal::NOT_KEY, format, no, place);
+        }
+        if b == b';' {
+            at = p + 1;
+        } else {
+            let key = lexer::string_end(input, p, format);
+            if key == 0 {
+                return why(input, p, refusal::NOT_KEY, format, no, place);
+            }
+            let next = scan_pair(input, key, depth, format, no, place);
+            if next == 0 {
+                return 0;
+            }
+            at = next;
+        }
+    }
+}
+
+// What stands behind a key: `=` and a value.
+fn scan_pair(
+    input: &[u8],
+    at: usize,
+    depth: usize,
+    format: Format,
+    no: &mut usize,
+    place: &mut usize,
+) -> usize
+    requires { ⌜ depth ≤ mostOpen ⌝ }
+    ensures { λ r. ⌜ Pair format (now (input .entry)) at depth (answerOf r (now (no .exit)) (now (place .exit))) ⌝ }
+{
+    let p = lexer::skip(input, at, format);
+    if input.len() <= p {
+        *no = 0;
+        return 0;
+    }
+    if input[p] == b'=' {
+        return scan_tree(input, p + 1, depth, format, no, place);
+    }
+    why(input, p, refusal::NOT_EQUALS, format, no, place)
+}

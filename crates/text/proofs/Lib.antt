@@ -1,0 +1,3 @@
+-- Laws of text tokens.
+pub mod Laws
+pub mod Callers

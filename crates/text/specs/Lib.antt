@@ -1,0 +1,3 @@
+-- The definitions that the contracts of this crate cite, in the order to read them.
+pub mod Text
+pub mod Strings
