@@ -2,8 +2,12 @@
 // A case is its kind (1 byte), the length of its payload (4 bytes, little endian) and the payload. Numbers are printed in decimal,
 // bytes in hex, `-` for none.
 mod read;
+mod scans;
 mod text;
+mod tokens;
 mod varints;
+
+use refusal::Format;
 
 // Whether the program goes on, and how much of the output is filled.
 struct Go {
@@ -12,35 +16,37 @@ struct Go {
 }
 
 // One case, whose payload is whole.
-fn answer(kind: u8, payload: &[u8], out: &mut [u8], filled: usize) -> usize {
+fn answer(kind: u8, payload: &[u8], area: &mut [u8], out: &mut [u8], filled: usize) -> usize {
     let n = text::spare(out, filled);
     match kind {
+        1 => scans::scan(payload, Format::Binary, out, n),
+        2 => scans::scan(payload, Format::Text, out, n),
         3 => varints::read_unsigned(payload, out, n),
         4 => varints::read_signed(payload, out, n),
         5 => varints::write_unsigned(payload, out, n),
         6 => varints::write_signed(payload, out, n),
+        7 => tokens::token(payload, Format::Binary, out, n),
+        8 => tokens::token(payload, Format::Text, out, n),
+        9 => tokens::string(payload, Format::Binary, area, out, n),
+        10 => tokens::string(payload, Format::Text, area, out, n),
         _ => output::put_word(out, n, b"bad case\n"),
     }
 }
 
-// A case whose payload is longer than any that is answered: it is passed over.
+// What a payload answers that is longer than any that is read: cases of bytes are too long, and no other case has such a form.
+fn put_long(kind: u8, out: &mut [u8], n: usize) -> usize {
+    match kind {
+        1 | 2 | 3 | 4 | 7 | 8 | 9 | 10 => output::put_word(out, n, b"too long\n"),
+        _ => output::put_word(out, n, b"bad case\n"),
+    }
+}
+
+// A case with such a payload, which is passed over.
 fn pass_over(kind: u8, rest: u64, payload: &mut [u8], out: &mut [u8], filled: usize) -> Go {
     let n = text::spare(out, filled);
     if read::skip(rest, payload) {
-        if kind == 3 {
-            return Go {
-                filled: output::put_word(out, n, b"too long\n"),
-                more: true,
-            };
-        }
-        if kind == 4 {
-            return Go {
-                filled: output::put_word(out, n, b"too long\n"),
-                more: true,
-            };
-        }
         return Go {
-            filled: output::put_word(out, n, b"bad case\n"),
+            filled: put_long(kind, out, n),
             more: true,
         };
     }
@@ -51,7 +57,13 @@ fn pass_over(kind: u8, rest: u64, payload: &mut [u8], out: &mut [u8], filled: us
 }
 
 // The next case, if there is one.
-fn turn(head: &mut [u8; 5], payload: &mut [u8], out: &mut [u8], filled: usize) -> Go {
+fn turn(
+    head: &mut [u8; 5],
+    payload: &mut [u8],
+    area: &mut [u8],
+    out: &mut [u8],
+    filled: usize,
+) -> Go {
     let got = io::read_full(0, head);
     if got == 0 {
         return Go {
@@ -78,18 +90,18 @@ fn turn(head: &mut [u8; 5], payload: &mut [u8], out: &mut [u8], filled: usize) -
         };
     }
     Go {
-        filled: answer(kind, &payload[..length], out, n),
+        filled: answer(kind, &payload[..length], area, out, n),
         more: true,
     }
 }
 
-fn run(payload: &mut [u8], out: &mut [u8]) {
+fn run(payload: &mut [u8], area: &mut [u8], out: &mut [u8]) {
     let mut head = [0u8; 5];
     let mut filled: usize = 0;
     let mut more = true;
     let mut turns = u64::MAX;
     while turns > 0 && more {
-        let g = turn(&mut head, payload, out, filled);
+        let g = turn(&mut head, payload, area, out, filled);
         filled = g.filled;
         more = g.more;
         turns -= 1;
@@ -99,6 +111,7 @@ fn run(payload: &mut [u8], out: &mut [u8]) {
 
 fn main() {
     let mut payload = [0u8; 65544];
+    let mut area = io::large_buffer();
     let mut out = io::large_buffer();
-    run(&mut payload, &mut out);
+    run(&mut payload, &mut area, &mut out);
 }

@@ -1,6 +1,5 @@
 // What lines are made of, over a lent output buffer and how much of it is filled.
-ghost use mathlib.Core.Path.{_≡_};
-ghost use Prim.Native.Nat.{_≤_};
+ghost use Prim.Native.Nat.{_<_};
 use refusal::Refusal;
 
 // Writes out what is filled.
@@ -47,6 +46,27 @@ fn digit(x: u8) -> u8 {
 fn put_byte(out: &mut [u8], n: usize, b: u8) -> usize {
     let pair = [digit(b / 16), digit(b % 16)];
     output::put_word(out, n, &pair)
+}
+
+// A byte of a number, counted from its lowest by the number's weight there.
+fn byte_of(bits: u64, weight: u64) -> u8
+    requires { ⌜ (0 < weight) ⌝ }
+{
+    (bits / weight % 256) as u8
+}
+
+// The eight lowest hex digits of a number.
+fn put_half(out: &mut [u8], n: usize, half: u64) -> usize {
+    let a = put_byte(out, n, byte_of(half, 0x100_0000));
+    let b = put_byte(out, a, byte_of(half, 0x1_0000));
+    let c = put_byte(out, b, byte_of(half, 0x100));
+    put_byte(out, c, byte_of(half, 1))
+}
+
+// Sixteen hex digits.
+pub fn put_bits(out: &mut [u8], n: usize, bits: u64) -> usize {
+    let a = put_half(out, n, bits / 0x1_0000_0000);
+    put_half(out, a, bits)
 }
 
 // Bytes in hex, `-` for none. What is filled is written out as often as needed.

@@ -5,10 +5,10 @@ use Rattle.answers.proofs.run.Statement.{statement}
 use Rattle.answers.proofs.run.Tie as tie
 
 abbrev Inv-loop : tie.InvT-loop
-Inv-loop payload₀ out₀ head₀ filled₀ more₀ turns₀ payload out head filled more turns = (length payload ≡ length payload₀) × (length out ≡ length out₀)
+Inv-loop payload₀ area₀ out₀ head₀ filled₀ more₀ turns₀ payload area out head filled more turns = (length payload ≡ length payload₀) × (length area ≡ length area₀) × (length out ≡ length out₀)
 
 abbrev μ-loop : tie.MeasureT-loop
-μ-loop payload₀ out₀ head₀ filled₀ more₀ turns₀ payload out head filled more turns = turns
+μ-loop payload₀ area₀ out₀ head₀ filled₀ more₀ turns₀ payload area out head filled more turns = turns
 
 loop-holds : tie.Need-loop-holds Inv-loop μ-loop
 loop-holds c = search needs
@@ -34,6 +34,9 @@ same-length c = search needs
 same-length-2 : tie.Need-same-length-2 Inv-loop μ-loop
 same-length-2 c = search needs
 
+same-length-3 : tie.Need-same-length-3 Inv-loop μ-loop
+same-length-3 c = search needs
+
 returns : tie.Need-returns Inv-loop μ-loop
 returns c = search needs
 
@@ -51,4 +54,5 @@ run-spec =
     flush-requires
     same-length
     same-length-2
+    same-length-3
     returns)

@@ -76,6 +76,9 @@ same-length-6 c = search needs
 same-length-7 : tie.Need-same-length-7
 same-length-7 c = search needs
 
+same-length-8 : tie.Need-same-length-8
+same-length-8 c = search needs
+
 returns-5 : tie.Need-returns-5
 returns-5 c = search needs
 
@@ -107,4 +110,5 @@ turn-spec =
     answer-requires
     same-length-6
     same-length-7
+    same-length-8
     returns-5)

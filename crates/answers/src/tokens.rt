@@ -1,0 +1,146 @@
+// Kinds 7 to 10: a token, and a string's bytes.
+ghost use Prim.Native.Nat.{_≤_};
+ghost use lib.ListN.{length};
+use crate::read;
+use crate::text;
+use refusal::Cause;
+use refusal::Format;
+use token::Read;
+use token::Token;
+use token::Unescaped;
+
+// A word, a place and a length.
+fn put_extent(out: &mut [u8], n: usize, word: &[u8], start: usize, len: usize) -> usize {
+    let a = output::put_word(out, n, word);
+    let b = output::put_decimal(out, a, start as u64);
+    let c = output::put_word(out, b, b" ");
+    output::put_decimal(out, c, len as u64)
+}
+
+// A token, without its places.
+fn put_token(out: &mut [u8], n: usize, token: Token) -> usize {
+    match token {
+        Token::BeginAttributes => output::put_word(out, n, b"<"),
+        Token::EndAttributes => output::put_word(out, n, b">"),
+        Token::BeginList => output::put_word(out, n, b"["),
+        Token::EndList => output::put_word(out, n, b"]"),
+        Token::BeginMap => output::put_word(out, n, b"{"),
+        Token::EndMap => output::put_word(out, n, b"}"),
+        Token::String { start, len } => put_extent(out, n, b"string ", start, len),
+        Token::Escaped { start, len } => put_extent(out, n, b"escaped ", start, len),
+        Token::Int64(v) => {
+            let a = output::put_word(out, n, b"int64 ");
+            text::put_signed(out, a, v)
+        }
+        Token::Uint64(v) => {
+            let a = output::put_word(out, n, b"uint64 ");
+            output::put_decimal(out, a, v)
+        }
+        Token::Double { value: _, bits } => {
+            let a = output::put_word(out, n, b"double ");
+            text::put_bits(out, a, bits)
+        }
+        Token::Decimal { start, len } => put_extent(out, n, b"decimal ", start, len),
+        Token::Boolean(q) => put_boolean(out, n, q),
+        Token::Entity => output::put_word(out, n, b"#"),
+        Token::KeyValueSeparator => output::put_word(out, n, b"="),
+        Token::ItemSeparator => output::put_word(out, n, b";"),
+    }
+}
+
+fn put_boolean(out: &mut [u8], n: usize, q: bool) -> usize {
+    if q {
+        return output::put_word(out, n, b"true");
+    }
+    output::put_word(out, n, b"false")
+}
+
+// A token with the place of its first byte and the place after it, or why there is none.
+fn put_read(out: &mut [u8], n: usize, answer: Read) -> usize {
+    match answer {
+        Read::Token { token, first, next } => {
+            let a = put_token(out, n, token);
+            let b = output::put_word(out, a, b" at ");
+            let c = output::put_decimal(out, b, first as u64);
+            let d = output::put_word(out, c, b" end ");
+            output::put_decimal(out, d, next as u64)
+        }
+        Read::Incomplete => output::put_word(out, n, b"more"),
+        Read::Refused { refusal } => text::put_refusal(out, n, refusal),
+        Read::Beyond => text::put_cause(out, n, Cause::BeyondSlice),
+    }
+}
+
+// Kinds 7 and 8: the token at a place.
+pub fn token(payload: &[u8], format: Format, out: &mut [u8], n: usize) -> usize {
+    if payload.len() < 4 {
+        return output::put_word(out, n, b"bad case\n");
+    }
+    if 65540 < payload.len() {
+        return output::put_word(out, n, b"too long\n");
+    }
+    let found = lexer::next_token(&payload[4..], read::little4(payload, 0), format);
+    let a = put_read(out, n, found);
+    text::put_newline(out, a)
+}
+
+// What asking for a string's bytes answered, without the output.
+fn put_unescaped(out: &mut [u8], n: usize, answer: Unescaped) -> usize {
+    match answer {
+        Unescaped::Bytes { count, next } => {
+            let a = output::put_word(out, n, b"string ");
+            let b = output::put_decimal(out, a, count as u64);
+            let c = output::put_word(out, b, b" end ");
+            output::put_decimal(out, c, next as u64)
+        }
+        Unescaped::Incomplete => output::put_word(out, n, b"more"),
+        Unescaped::Refused { refusal } => text::put_refusal(out, n, refusal),
+        Unescaped::Beyond => text::put_cause(out, n, Cause::BeyondSlice),
+        Unescaped::NotString => text::put_cause(out, n, Cause::NotString),
+        Unescaped::Short => text::put_cause(out, n, Cause::ShortOutput),
+    }
+}
+
+// Sets the first bytes of an area to AA.
+fn clear(area: &mut [u8], room: usize) {
+    let mut i = 0;
+    while i < area.len() {
+        if room <= i {
+            return;
+        }
+        area[i] = 0xAA;
+        i += 1;
+    }
+}
+
+// The string of a case, into the first bytes of an area.
+fn string_into(payload: &[u8], format: Format, area: &mut [u8], out: &mut [u8], n: usize) -> usize
+    requires { ⌜ 8 ≤ length (now payload) ⌝ }
+{
+    let room = read::little4(payload, 4);
+    if area.len() < room {
+        return output::put_word(out, n, b"too long\n");
+    }
+    clear(area, room);
+    let found = lexer::string_bytes(
+        &payload[8..],
+        read::little4(payload, 0),
+        format,
+        &mut area[..room],
+    );
+    let a = put_unescaped(out, n, found);
+    let b = output::put_word(out, a, b" ");
+    let c = text::put_bytes(out, b, &area[..room]);
+    text::put_newline(out, c)
+}
+
+// Kinds 9 and 10: the bytes of the string at a place, into an output of so many bytes AA.
+pub fn string(payload: &[u8], format: Format, area: &mut [u8], out: &mut [u8], n: usize) -> usize {
+    if payload.len() < 8 {
+        return output::put_word(out, n, b"bad case\n");
+    }
+    if 65544 < payload.len() {
+        return output::put_word(out, n, b"too long\n");
+    }
+    string_into(payload, format, area, out, n)
+}
