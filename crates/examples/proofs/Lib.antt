@@ -1,0 +1,2 @@
+-- The claim about every worked example.
+pub mod All

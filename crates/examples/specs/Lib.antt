@@ -1,0 +1,2 @@
+-- The worked examples of document 01 that are proved.
+pub mod Examples
