@@ -21,15 +21,3 @@ build_oracle() {
     fi
     oracle=$root/target/oracle/release/oracle
 }
-
-# Runs a program that rt built, standard input to standard output, as rt runs it:
-# under the kit's loader and C library, and on another processor than x86-64 under
-# the emulator that the kit has beside its compiler.
-run_program() { # NAME
-    local kit tools emulator
-    kit=$(dirname "$(dirname "$(rt doc)")")
-    tools=$kit/on/$(uname -m)/toolchain
-    emulator=$tools/bin/qemu-x86_64
-    [ -x "$emulator" ] || emulator=
-    ${emulator:+"$emulator"} "$tools/lib/ld-linux-x86-64.so.2" --library-path "$tools/lib" "$root/target/bin/$1"
-}

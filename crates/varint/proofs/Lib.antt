@@ -5,4 +5,3 @@ pub mod Write
 pub mod Round
 pub mod Extend
 pub mod Answers
-pub mod Examples
