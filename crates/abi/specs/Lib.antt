@@ -1,0 +1,2 @@
+-- What a host gets of the C call.
+pub mod Call
