@@ -33,6 +33,8 @@ fn main() {
     println!("cargo:rerun-if-changed={}", archive.display());
     println!("cargo:rustc-link-search=native={}", folder.display());
     println!("cargo:rustc-link-lib=static=abi");
+    // For the test that links it from C.
+    println!("cargo:rustc-env=ONIONSAIL_ARCHIVE={}", archive.display());
 }
 
 fn stop(why: &str) -> ! {
