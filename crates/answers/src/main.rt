@@ -1,6 +1,6 @@
 // Answers cases from standard input, one line each, so that any other implementation can be held beside the library.
 // A case is its kind (1 byte), the length of its payload (4 bytes, little endian) and the payload. Numbers are printed in decimal,
-// bytes in hex, `-` for none.
+// bytes in hex, `-` for none; docs/ANSWERS.md has the whole protocol.
 mod read;
 mod scans;
 mod text;
