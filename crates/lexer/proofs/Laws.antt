@@ -6,6 +6,7 @@ use Prim.Native.Nat.{ℕ, suc, _+_, _≤_, _<_}
 use native.Mathlib.Omega.{arith}
 use lib.ListN.{length, getD}
 use borrow.Author.Tests.{le-ltb}
+use Rattle.refusal.specs.Numbers.{badByte, unknownWord}
 use Rattle.refusal.specs.Paper.{Paper, gives, more, refused, Spot, spot}
 use Rattle.refusal.specs.declared.Format.{Format}
 use Rattle.refusal.specs.declared.Format.the-variants.{Binary, Text}
@@ -39,7 +40,7 @@ spotted l q (gives (spot t f m)) x k a n e = let y : f ≡ a = cc in let z : m �
 spotted l q more x k a n e = let z : _≡_ {A = ℕ} 0 1 = cc in absurd (omega arith)
 spotted l q (refused m vs) x k a n e = let z : _≡_ {A = ℕ} 0 1 = cc in absurd (omega arith)
 
-unread : (l q : ℕ) (p : Paper (Spot Token)) → Sound l q p → (m : ℕ) (vs : List ℕ) → kindsOf p ≡ refused m vs → (1 ≤ m) × (m ≤ 9) × (vs ≡ q ∷ [])
+unread : (l q : ℕ) (p : Paper (Spot Token)) → Sound l q p → (m : ℕ) (vs : List ℕ) → kindsOf p ≡ refused m vs → (badByte ≤ m) × (m ≤ unknownWord) × (vs ≡ q ∷ [])
 unread l q (gives (spot t f n)) x m vs e = let z : _≡_ {A = ℕ} 0 1 = cc in absurd (omega arith)
 unread l q more x m vs e = let z : _≡_ {A = ℕ} 0 1 = cc in absurd (omega arith)
 unread l q (refused n ws) x m vs e =
@@ -86,7 +87,7 @@ module _ (f : Format) (s : List ℕ) (at : ℕ) where
     pub first-is : a ≡ skipOf f s at
     first-is = found .0
 
-  pub refused-is : {m : ℕ} {vs : List ℕ} → kindAt f s at ≡ refused m vs → (1 ≤ m) × (m ≤ 9) × (vs ≡ skipOf f s at ∷ [])
+  pub refused-is : {m : ℕ} {vs : List ℕ} → kindAt f s at ≡ refused m vs → (badByte ≤ m) × (m ≤ unknownWord) × (vs ≡ skipOf f s at ∷ [])
   unfolding kindAt
   refused-is {m} {vs} e = unread (length s) (skipOf f s at) (tokenFrom f s at) (sound f s at) m vs e
 

@@ -4,6 +4,7 @@ use mathlib.Core.List.{List, [], _∷_}
 use Prim.Native.Nat.{ℕ, suc, _≤_, _<_}
 use native.Mathlib.Omega.{arith}
 use lib.Dec.{eqb, lit≤}
+use Rattle.refusal.specs.Numbers.{badByte, tooDeep, notString, malformedRecord, cutShort, recordTooLong, bufferLength, afterClosing, offsetTooHigh, beyondSlice, shortOutput, strangeState}
 use Rattle.refusal.specs.Paper.{Paper, gives, more, refused, pick}
 use Rattle.refusal.specs.Meaning.{numberOf, placeOf, refusalMeaning, namedBy, movedTo, callNumberOf}
 use Rattle.refusal.specs.declared.Refusal.{Refusal}
@@ -62,7 +63,7 @@ moved-place q (NotEquals p) = refl
 moved-place q (TooDeep p) = refl
 
 -- the numbers of refusals are 1 to 13
-pub number-from : (r : Refusal) → 1 ≤ numberOf r
+pub number-from : (r : Refusal) → badByte ≤ numberOf r
 number-from (BadByte p) = lit≤ tt
 number-from (NegativeLength p) = lit≤ tt
 number-from (LongVarint p) = lit≤ tt
@@ -77,7 +78,7 @@ number-from (NotKey p) = lit≤ tt
 number-from (NotEquals p) = lit≤ tt
 number-from (TooDeep p) = lit≤ tt
 
-pub number-to : (r : Refusal) → numberOf r ≤ 13
+pub number-to : (r : Refusal) → numberOf r ≤ tooDeep
 number-to (BadByte p) = lit≤ tt
 number-to (NegativeLength p) = lit≤ tt
 number-to (LongVarint p) = lit≤ tt
@@ -103,16 +104,16 @@ refusal-injective r q e = same-refusal r q (cc) (cc)
 -- the cause of a number
 causeBy : ℕ → Cause
 causeBy k =
-    pick (eqb k 14) NotString
-    (pick (eqb k 20) MalformedRecord
-    (pick (eqb k 21) CutShort
-    (pick (eqb k 22) RecordTooLong
-    (pick (eqb k 23) BufferLength
-    (pick (eqb k 24) AfterClosing
-    (pick (eqb k 25) OffsetTooHigh
-    (pick (eqb k 26) BeyondSlice
-    (pick (eqb k 27) ShortOutput
-    (pick (eqb k 28) StrangeState
+    pick (eqb k notString) NotString
+    (pick (eqb k malformedRecord) MalformedRecord
+    (pick (eqb k cutShort) CutShort
+    (pick (eqb k recordTooLong) RecordTooLong
+    (pick (eqb k bufferLength) BufferLength
+    (pick (eqb k afterClosing) AfterClosing
+    (pick (eqb k offsetTooHigh) OffsetTooHigh
+    (pick (eqb k beyondSlice) BeyondSlice
+    (pick (eqb k shortOutput) ShortOutput
+    (pick (eqb k strangeState) StrangeState
     BadCall)))))))))
 
 caused : (c : Cause) → causeBy (callNumberOf c) ≡ c
@@ -133,7 +134,7 @@ pub cause-injective : (c d : Cause) → callNumberOf c ≡ callNumberOf d → c 
 cause-injective c d e = sym (caused c) ∙ ap causeBy e ∙ caused d
 
 -- no cause has the number of a refusal
-pub cause-above : (c : Cause) → 13 < callNumberOf c
+pub cause-above : (c : Cause) → tooDeep < callNumberOf c
 cause-above NotString = lit≤ tt
 cause-above MalformedRecord = lit≤ tt
 cause-above CutShort = lit≤ tt

@@ -8,7 +8,7 @@ use Prim.Native.Nat.{ℕ, suc, _≤_, _<_}
 use native.Mathlib.Omega.{arith}
 use lib.Dec.{eqb, lit≤}
 use lib.ListN.{length, getD}
-use Rattle.refusal.specs.Numbers.{beyondSlice, badHexEscape, badUint64, badDouble, badInt64, unknownWord}
+use Rattle.refusal.specs.Numbers.{badByte, beyondSlice, badHexEscape, badUint64, badDouble, badInt64, unknownWord}
 use Rattle.refusal.specs.Paper.{Paper, gives, more, refused, Spot, spot, pick}
 use Rattle.refusal.proofs.Cases.{either}
 use Rattle.token.specs.declared.Token.{Token}
@@ -29,7 +29,7 @@ use Rattle.text.proofs.Laws.{nothing-started, something-started}
 module _ (s : List ℕ) (p : ℕ) (h : p < length s) where
   -- by what is known of a token, and of a refusal
   by : (q : Paper (Spot Token)) → ((t : Token) (f n : ℕ) → q ≡ gives (spot t f n) → (f ≡ p) × (p < n) × (n ≤ length s))
-      → ((n : ℕ) (vs : List ℕ) → q ≡ refused n vs → (1 ≤ n) × (n ≤ 9) × (vs ≡ p ∷ [])) → Sound (length s) p q
+      → ((n : ℕ) (vs : List ℕ) → q ≡ refused n vs → (badByte ≤ n) × (n ≤ unknownWord) × (vs ≡ p ∷ [])) → Sound (length s) p q
   by (gives (spot t f n)) g r = g t f n refl
   by more g r = tt
   by (refused n vs) g r = r n vs refl
@@ -39,7 +39,7 @@ module _ (s : List ℕ) (p : ℕ) (h : p < length s) where
       by (quotedAt s p) (λ t f n e. let x = quoted-gives s p t f n e in (x .here, x .past, x .lies))
       (λ n vs e. ⊎-elim (λ x. (omega (arith, x .0), omega (arith, x .0), x .1)) (λ x. absurd (omega arith)) (quoted-refuses s p n vs e))
 
-  word-refusal : (n : ℕ) (vs : List ℕ) → w.NoWord s p n vs → (1 ≤ n) × (n ≤ 9) × (vs ≡ p ∷ [])
+  word-refusal : (n : ℕ) (vs : List ℕ) → w.NoWord s p n vs → (badByte ≤ n) × (n ≤ unknownWord) × (vs ≡ p ∷ [])
   word-refusal n vs (w.outside k) = absurd (omega arith)
   word-refusal n vs (w.unknown k) = (lit≤ tt, lit≤ tt, refl)
 
@@ -48,12 +48,12 @@ module _ (s : List ℕ) (p : ℕ) (h : p < length s) where
       by (wordAt s p) (λ t f n e. let x = w.word-lies s p t f n e in (x .here, x .grows, x .within))
       (λ n vs e. word-refusal n vs (w.word-refused s p n vs e))
 
-  bad-refusal : (n : ℕ) (vs : List ℕ) → BadNumber p n vs → (1 ≤ n) × (n ≤ 9) × (vs ≡ p ∷ [])
+  bad-refusal : (n : ℕ) (vs : List ℕ) → BadNumber p n vs → (badByte ≤ n) × (n ≤ unknownWord) × (vs ≡ p ∷ [])
   bad-refusal n vs bad-uint64 = (lit≤ tt, lit≤ tt, refl)
   bad-refusal n vs bad-double = (lit≤ tt, lit≤ tt, refl)
   bad-refusal n vs bad-int64 = (lit≤ tt, lit≤ tt, refl)
 
-  number-refusal : (n : ℕ) (vs : List ℕ) → NoNumber s p n vs → (1 ≤ n) × (n ≤ 9) × (vs ≡ p ∷ [])
+  number-refusal : (n : ℕ) (vs : List ℕ) → NoNumber s p n vs → (badByte ≤ n) × (n ≤ unknownWord) × (vs ≡ p ∷ [])
   number-refusal n vs (outside k) = absurd (omega arith)
   number-refusal n vs (bad k b) = bad-refusal n vs b
 

@@ -6,6 +6,7 @@ use mathlib.Core.List.{List, [], _∷_}
 use Prim.Native.Nat.{ℕ, _+_, _≤_, _<_}
 use native.Mathlib.Omega.{arith}
 use lib.Dec.{lit≤}
+use Rattle.refusal.specs.Numbers.{badByte, unknownWord}
 use Rattle.refusal.specs.Paper.{Paper, gives, more, refused, Spot, spot, pick}
 use Rattle.token.specs.declared.Token.{Token}
 use Rattle.token.specs.declared.Mark.{Mark}
@@ -16,7 +17,7 @@ use Rattle.token.specs.Marks.{ofMark}
 abbrev pub Sound : ℕ → ℕ → Paper (Spot Token) → Type 0
 Sound length at (gives (spot t first next)) = (first ≡ at) × (at < next) × (next ≤ length)
 Sound length at more = Unit {0}
-Sound length at (refused n vs) = (1 ≤ n) × (n ≤ 9) × (vs ≡ at ∷ [])
+Sound length at (refused n vs) = (badByte ≤ n) × (n ≤ unknownWord) × (vs ≡ at ∷ [])
 
 module _ (length at : ℕ) where
   pub pick-sound : (q : Bool) (a b : Paper (Spot Token)) → Sound length at a → Sound length at b → Sound length at (pick q a b)

@@ -10,7 +10,7 @@ use lib.ListN.{length, take, drop, getD, length-append, length-drop}
 use lib.Seq.{take-append-seam, drop-at, length-take-le}
 use lib.Dec.{leb, ltb}
 use borrow.Author.Tests.{lt-ltb, le-ltb, le-leb, lt-leb, leb-true, leb-false, ltb-true, ltb-false}
-use Rattle.refusal.specs.Numbers.{longVarint, wideVarint, beyondSlice}
+use Rattle.refusal.specs.Numbers.{badByte, longVarint, wideVarint, beyondSlice}
 use Rattle.refusal.specs.Paper.{Paper, gives, more, refused, Got, got, pick}
 use Rattle.refusal.proofs.Cases.{either}
 use Rattle.varint.specs.Varint.{run, number, tenthIsWide, eleventhIsThere, runsOut, uvarint, uvarintAt}
@@ -185,7 +185,7 @@ never-beyond s at n h e = no (tenthIsWide t) (eleventhIsThere t) (runsOut t) (nu
     no false false false v m x = let z : _≡_ {A = ℕ} 0 1 = cc in omega arith
 
 -- what is refused within the slice is 3 or 4
-pub refused-number : (s : List ℕ) (at n : ℕ) (vs : List ℕ) → at ≤ length s → uvarintAt s at ≡ refused n vs → (1 ≤ n) × (n ≤ 4)
+pub refused-number : (s : List ℕ) (at n : ℕ) (vs : List ℕ) → at ≤ length s → uvarintAt s at ≡ refused n vs → (badByte ≤ n) × (n ≤ wideVarint)
 unfolding uvarint
 refused-number s at n vs h e =
     which (tenthIsWide t) (eleventhIsThere t) (runsOut t) (number (take (suc (run t)) t)) (at + suc (run t)) (sym (at-is s at h) ∙ e)
@@ -194,7 +194,7 @@ refused-number s at n vs h e =
     t = drop at s
 
     which : (q₁ q₂ q₃ : Bool) (v m : ℕ)
-        → pick q₁ (refused wideVarint (at ∷ [])) (pick q₂ (refused longVarint (at ∷ [])) (pick q₃ more (giving v m))) ≡ refused n vs → (1 ≤ n) × (n ≤ 4)
+        → pick q₁ (refused wideVarint (at ∷ [])) (pick q₂ (refused longVarint (at ∷ [])) (pick q₃ more (giving v m))) ≡ refused n vs → (badByte ≤ n) × (n ≤ wideVarint)
     which true q₂ q₃ v m x = let z : wideVarint ≡ n = cc in (omega arith, omega arith)
     which false true q₃ v m x = let z : longVarint ≡ n = cc in (omega arith, omega arith)
     which false false true v m x = let z : _≡_ {A = ℕ} 0 1 = cc in absurd (omega arith)
