@@ -3,7 +3,7 @@
 
 # The kinds of cases that program `answers` answers today (docs and oracle/README.md
 # say what each is). No other kind is asked of it.
-KINDS=${KINDS:-1,2,3,4,5,6,7,8,9,10}
+KINDS=${KINDS:-1,2,3,4,5,6,7,8,9,10,11}
 
 root=$(cd "$(dirname "${BASH_SOURCE[0]}")/.." && pwd -P)
 

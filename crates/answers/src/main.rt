@@ -1,6 +1,7 @@
 // Answers cases from standard input, one line each, so that any other implementation can be held beside the library.
 // A case is its kind (1 byte), the length of its payload (4 bytes, little endian) and the payload. Numbers are printed in decimal,
 // bytes in hex, `-` for none; docs/ANSWERS.md has the whole protocol.
+mod frames;
 mod read;
 mod scans;
 mod text;
@@ -10,9 +11,9 @@ mod varints;
 use refusal::Format;
 
 // Whether the program goes on, and how much of the output is filled.
-struct Go {
-    filled: usize,
-    more: bool,
+pub struct Go {
+    pub filled: usize,
+    pub more: bool,
 }
 
 // One case, whose payload is whole.
@@ -80,6 +81,10 @@ fn turn(
     }
     let kind = head[0];
     let length = read::little4(head, 1);
+    if kind == 11 {
+        text::flush(out, n);
+        return frames::answer(length as u64, payload, area, out);
+    }
     if payload.len() < length {
         return pass_over(kind, length as u64, payload, out, n);
     }

@@ -30,6 +30,16 @@ pub fn little4(s: &[u8], at: usize) -> usize
     (a + b * 0x100 + c * 0x1_0000 + d * 0x100_0000) as usize
 }
 
+// Two bytes from a place on as one number, lowest first.
+pub fn little2(s: &[u8], at: usize) -> usize
+    requires { ⌜ at ≤ 1000 ⌝ }
+    ensures { λ r. ⌜ r ≤ 65535 ⌝ }
+{
+    let a = byte_at(s, at);
+    let b = byte_at(s, at + 1);
+    (a + b * 0x100) as usize
+}
+
 // Eight bytes from a place on as one number, lowest first.
 pub fn little8(s: &[u8], at: usize) -> u64
     requires { ⌜ at ≤ 900 ⌝ }

@@ -1,6 +1,8 @@
 // The worked examples that are run and not proved: those of document 01, the vectors of the Protocol Buffers encoding document, the
 // literals of the public YSON page, and texts of the documentation of `f64::from_str` that can stand in a number token. Each line of
 // its file stdout was written from those documents.
+mod streams;
+
 use libc::STDOUT_FILENO;
 use refusal::Cause;
 use refusal::Format;
@@ -13,11 +15,11 @@ use varint::Uvarint;
 use varint::Varint;
 use varint::Written;
 
-fn say(word: &[u8]) {
+pub fn say(word: &[u8]) {
     io::write_all(STDOUT_FILENO, word);
 }
 
-fn say_number(n: usize) {
+pub fn say_number(n: usize) {
     io::print_decimal(STDOUT_FILENO, n as u64);
 }
 
@@ -287,7 +289,7 @@ fn strings() {
     string(b"\"0123456789abcdefg\"");
 }
 
-// The facts of DESIGN: places and orders of refusals.
+// Places and orders of refusals.
 fn scans() {
     say(b"scans\n");
     text(b"12");
@@ -318,4 +320,5 @@ fn main() {
     numbers();
     strings();
     scans();
+    streams::all();
 }

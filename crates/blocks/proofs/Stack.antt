@@ -1,0 +1,172 @@
+-- The open blocks and their bytes. Assumes nothing.
+use mathlib.Core.Path.{_≡_, refl, sym, ap, _∙_}
+use mathlib.Core.Bool.{Bool, true, false, _&&_}
+use mathlib.Core.List.{List, [], _∷_}
+use Prim.Native.Nat.{ℕ, zero, suc, _+_, _-_, _≤_, _<_}
+use native.Mathlib.Omega.{arith}
+use lib.Dec.{eqb, ltb}
+use lib.ListN.{length, getD, set, take}
+use borrow.Author.Tests.{eq-eqb, ne-eqb, lt-ltb, le-ltb, le-leb, lt-leb}
+use Rattle.refusal.specs.Numbers.{notValue, notKey}
+use Rattle.refusal.specs.Paper.{pick}
+use Rattle.scan.specs.Limit.{mostOpen}
+use Rattle.scan.specs.Step.{Block, list, map, attributes, Step, go, finished, wrong, key, item, object, after, closed, endList, endMap, endAttributes}
+use Rattle.scan.specs.Step as automaton
+use Rattle.blocks.specs.declared.Blocks.{Blocks}
+use Rattle.blocks.specs.declared.Due.{Due}
+use Rattle.blocks.specs.declared.Due.the-variants.{Value, Object, Item, Key, Equals}
+use Rattle.blocks.specs.Kept.{blockOf, byteOf, openIn, blocksOf, dueOf, keptDue, innermost, kindsThen, blocksThen, kindsKnown, takes, dueFits, blocksFit}
+use Rattle.blocks.specs.Moves.{around}
+
+-- ---- the stack
+
+pub open-none : (ks : List ℕ) (n : ℕ) → n ≡ 0 → openIn n ks ≡ []
+unfolding openIn
+open-none ks n e = ap (λ (m : ℕ). openIn m ks) e
+
+pub open-some : (ks : List ℕ) (n : ℕ) → (n ≡ 0 → ⊥) → openIn n ks ≡ blockOf (getD ks (n - 1) 0) ∷ openIn (n - 1) ks
+unfolding openIn
+open-some ks zero h = absurd (h refl)
+open-some ks (suc n) h = let e : suc n - 1 ≡ n = omega arith in rw e refl
+
+pub open-length : (ks : List ℕ) (n : ℕ) → length (openIn n ks) ≡ n
+unfolding openIn
+open-length ks zero = refl
+open-length ks (suc n) = ap suc (open-length ks n)
+
+-- a byte's block, by the code's tests
+pub is-list : (k : ℕ) → k ≡ 1 → blockOf k ≡ list
+unfolding blockOf
+is-list k e = ap blockOf e
+
+pub is-map : (k : ℕ) → k ≡ 2 → blockOf k ≡ map
+unfolding blockOf
+is-map k e = ap blockOf e
+
+pub is-attributes : (k : ℕ) → (k ≡ 1 → ⊥) → (k ≡ 2 → ⊥) → blockOf k ≡ attributes
+unfolding blockOf
+is-attributes k h g = rw (ne-eqb k 1 h, ne-eqb k 2 g)
+
+-- the innermost block of some, by the byte of its slot
+module _ (ks : List ℕ) (n : ℕ) (h : n ≡ 0 → ⊥) where
+  pub on-list : getD ks (n - 1) 0 ≡ 1 → openIn n ks ≡ list ∷ openIn (n - 1) ks
+  on-list e = open-some ks n h ∙ ap (λ (x : Block). x ∷ openIn (n - 1) ks) (is-list _ e)
+
+  pub on-map : getD ks (n - 1) 0 ≡ 2 → openIn n ks ≡ map ∷ openIn (n - 1) ks
+  on-map e = open-some ks n h ∙ ap (λ (x : Block). x ∷ openIn (n - 1) ks) (is-map _ e)
+
+  pub on-attributes : (getD ks (n - 1) 0 ≡ 1 → ⊥) → (getD ks (n - 1) 0 ≡ 2 → ⊥) → openIn n ks ≡ attributes ∷ openIn (n - 1) ks
+  on-attributes f g = open-some ks n h ∙ ap (λ (x : Block). x ∷ openIn (n - 1) ks) (is-attributes _ f g)
+
+  pub around-is : around (openIn n ks) ≡ openIn (n - 1) ks
+  around-is = ap around (open-some ks n h)
+
+-- no list: a map or attributes
+pub after-other : (k : ℕ) → (k ≡ 1 → ⊥) → (K : List Block) → after (blockOf k ∷ K) ≡ go (blockOf k ∷ K) key
+unfolding after blockOf
+after-other k h K = rw (ne-eqb k 1 h) (by (eqb k 2))
+  where
+    by : (q : Bool) → after (pick q map attributes ∷ K) ≡ go (pick q map attributes ∷ K) key
+    by true = refl
+    by false = refl
+
+pub list-other : (k : ℕ) → (k ≡ 1 → ⊥) → (K : List Block) → endList (blockOf k ∷ K) ≡ wrong notValue
+unfolding endList blockOf
+list-other k h K = rw (ne-eqb k 1 h) (by (eqb k 2))
+  where
+    by : (q : Bool) → endList (pick q map attributes ∷ K) ≡ wrong notValue
+    by true = refl
+    by false = refl
+
+pub map-other : (k : ℕ) → (k ≡ 2 → ⊥) → (K : List Block) → endMap (blockOf k ∷ K) ≡ wrong notKey
+unfolding endMap blockOf
+map-other k h K = rw (ne-eqb k 2 h) (by (eqb k 1))
+  where
+    by : (q : Bool) → endMap (pick q list attributes ∷ K) ≡ wrong notKey
+    by true = refl
+    by false = refl
+
+-- what no list takes
+module _ (k : ℕ) (h : k ≡ 1 → ⊥) (K : List Block) where
+  other-takes : (d : automaton.Due) (x : Bool) → takes (map ∷ K) d ≡ x → takes (attributes ∷ K) d ≡ x → takes (blockOf k ∷ K) d ≡ x
+  unfolding blockOf
+  other-takes d x e f = rw (ne-eqb k 1 h) (by (eqb k 2))
+    where
+      by : (q : Bool) → takes (pick q map attributes ∷ K) d ≡ x
+      by true = e
+      by false = f
+
+pub takes-none : (ks : List ℕ) (n : ℕ) → n ≡ 0 → (e d : Due) → d ≡ e → takes (openIn n ks) (dueOf d) ≡ takes [] (dueOf e)
+takes-none ks n h e d f = rw (open-none ks n h, f)
+
+pub takes-list : (ks : List ℕ) (n : ℕ) → (n ≡ 0 → ⊥) → getD ks (n - 1) 0 ≡ 1 → (e d : Due) → d ≡ e → takes (openIn n ks) (dueOf d) ≡ takes (list ∷ openIn (n - 1) ks) (dueOf e)
+takes-list ks n h g e d f = rw (on-list ks n h g, f)
+
+pub takes-other : (ks : List ℕ) (n : ℕ) → (n ≡ 0 → ⊥) → (getD ks (n - 1) 0 ≡ 1 → ⊥) → (e d : Due) → d ≡ e → (x : Bool) → takes (map ∷ openIn (n - 1) ks) (dueOf e) ≡ x → takes (attributes ∷ openIn (n - 1) ks) (dueOf e) ≡ x → takes (openIn n ks) (dueOf d) ≡ x
+takes-other ks n h g e d f x a b = rw (open-some ks n h, f) (other-takes _ g (openIn (n - 1) ks) (dueOf e) x a b)
+
+-- ---- known kinds
+
+pub known-turn : (ks : List ℕ) (n : ℕ) → 0 < n → kindsKnown n ks ≡ pick (eqb (getD ks (n - 1) 0) 0) false (pick (ltb 3 (getD ks (n - 1) 0)) false (kindsKnown (n - 1) ks))
+unfolding kindsKnown
+known-turn ks zero h = absurd (omega arith)
+known-turn ks (suc n) h = let e : suc n - 1 ≡ n = omega arith in rw e refl
+
+pub known-end : (ks : List ℕ) (n : ℕ) → n ≡ 0 → kindsKnown n ks ≡ true
+unfolding kindsKnown
+known-end ks n e = ap (λ (m : ℕ). kindsKnown m ks) e
+
+-- ---- 28's tests of the blocks, one by one
+
+module _ (b : Blocks) (passed : ℕ) where
+  pub no-depth : mostOpen < b .depth → blocksFit b passed ≡ false
+  unfolding blocksFit
+  no-depth h = rw (lt-leb (b .depth) mostOpen h) refl
+
+  module _ (i : b .depth ≤ mostOpen) where
+    pub no-depth-passed : passed < b .depth → blocksFit b passed ≡ false
+    unfolding blocksFit
+    no-depth-passed h = rw (le-leb (b .depth) mostOpen i, lt-leb (b .depth) passed h) refl
+
+    module _ (j : b .depth ≤ passed) where
+      last : blocksFit b passed ≡ (kindsKnown (b .depth) (b .kinds) && dueFits b)
+      unfolding blocksFit
+      last = rw (le-leb (b .depth) mostOpen i, le-leb (b .depth) passed j) refl
+
+      pub no-kinds : kindsKnown (b .depth) (b .kinds) ≡ false → blocksFit b passed ≡ false
+      no-kinds h = last ∙ ap (λ (t : Bool). t && dueFits b) h
+
+      pub by-due : kindsKnown (b .depth) (b .kinds) ≡ true → blocksFit b passed ≡ dueFits b
+      by-due h = last ∙ ap (λ (t : Bool). t && dueFits b) h
+
+-- ---- what a token leaves
+
+pub kept-due : (d : Due) → keptDue (dueOf d) ≡ d
+kept-due Value = refl
+kept-due Object = refl
+kept-due Item = refl
+kept-due Key = refl
+kept-due Equals = refl
+
+abbrev pub blocks : ℕ → Due → List ℕ → Blocks
+blocks n d ks = record { depth = n; due = d; kinds = ks }
+
+module _ (n : ℕ) (ks : List ℕ) (d₀ d : Due) where
+  abbrev b₀ : Blocks
+  b₀ = blocks n d₀ ks
+
+  pub then-open : (x : Block) (k : ℕ) → k ≡ byteOf x → blocksThen b₀ (x ∷ openIn n ks) (dueOf d) ≡ blocks (n + 1) d (set ks n k)
+  unfolding kindsThen innermost
+  then-open x k e =
+      let l : suc (length (openIn n ks)) ≡ n + 1 = omega (arith, open-length ks n) in
+      rw (lt-ltb n (suc (length (openIn n ks))) (omega arith), l, kept-due d, e) refl
+
+  pub then-close : (n ≡ 0 → ⊥) → blocksThen b₀ (around (openIn n ks)) (dueOf d) ≡ blocks (n - 1) d (set ks (n - 1) 0)
+  unfolding kindsThen
+  then-close h =
+      let p : 0 < n = omega arith in
+      rw (around-is ks n h, open-length ks (n - 1), le-ltb n (n - 1) (omega arith), lt-ltb (n - 1) n (omega arith), kept-due d) refl
+
+  pub then-keep : blocksThen b₀ (openIn n ks) (dueOf d) ≡ blocks n d ks
+  unfolding kindsThen
+  then-keep = rw (open-length ks n, le-ltb n n (omega arith), kept-due d) refl

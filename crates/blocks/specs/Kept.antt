@@ -1,0 +1,122 @@
+-- The open blocks as a state keeps them: one byte for each, the outermost first, and what is due in the innermost.
+use Prim.Native.Nat.{ℕ, zero, suc, _-_}
+use mathlib.Core.Bool.{Bool, true, false, _&&_}
+use mathlib.Core.List.{List, [], _∷_}
+use lib.Dec.{eqb, ltb, leb}
+use lib.ListN.{length, getD, set, replicate}
+use Rattle.refusal.specs.Paper.{pick}
+use Rattle.scan.specs.Limit.{mostOpen}
+use Rattle.scan.specs.Step.{Block, list, map, attributes, value, object, item, key, equals}
+use Rattle.scan.specs.Step as automaton
+use Rattle.blocks.specs.declared.Blocks.{Blocks}
+use Rattle.blocks.specs.declared.Due.{Due}
+use Rattle.blocks.specs.declared.Due.the-variants.{Value, Object, Item, Key, Equals}
+
+-- the bytes of the three kinds of block; no other byte is one
+abbrev pub listByte : ℕ
+listByte = 1
+
+abbrev pub mapByte : ℕ
+mapByte = 2
+
+abbrev pub attributesByte : ℕ
+attributesByte = 3
+
+unfoldable pub blockOf : ℕ → Block
+blockOf k = pick (eqb k listByte) list (pick (eqb k mapByte) map attributes)
+
+unfoldable pub byteOf : Block → ℕ
+byteOf list = listByte
+byteOf map = mapByte
+byteOf attributes = attributesByte
+
+-- the part that is due, as the automaton names it, and back
+abbrev pub dueOf : Due → automaton.Due
+dueOf Value = value
+dueOf Object = object
+dueOf Item = item
+dueOf Key = key
+dueOf Equals = equals
+
+abbrev pub keptDue : automaton.Due → Due
+keptDue value = Value
+keptDue object = Object
+keptDue item = Item
+keptDue key = Key
+keptDue equals = Equals
+
+-- the first n blocks of the bytes, the innermost first
+unfoldable pub openIn : ℕ → List ℕ → List Block
+openIn zero kinds = []
+openIn (suc n) kinds = blockOf (getD kinds n 0) ∷ openIn n kinds
+
+-- the open blocks, innermost first
+abbrev pub blocksOf : Blocks → List Block
+blocksOf b = openIn (b .depth) (b .kinds)
+
+-- no block is open, and a value is due
+unfoldable pub noBlocks : Blocks
+noBlocks = record { depth = 0; due = Value; kinds = replicate mostOpen 0 }
+
+-- the byte of the innermost block
+unfoldable pub innermost : List Block → ℕ
+innermost [] = 0
+innermost (x ∷ K) = byteOf x
+
+-- the bytes behind a token: a block that it opens is written in its slot, and the slot of one that it ends is cleared
+unfoldable pub kindsThen : Blocks → List Block → List ℕ
+kindsThen b K =
+    pick (ltb (b .depth) (length K)) (set (b .kinds) (b .depth) (innermost K))
+    (pick (ltb (length K) (b .depth)) (set (b .kinds) (b .depth - 1) 0)
+    (b .kinds))
+
+-- the open blocks behind a token that leaves the blocks K open and the part d due
+abbrev pub blocksThen : Blocks → List Block → automaton.Due → Blocks
+blocksThen b K d = record { depth = length K; due = keptDue d; kinds = kindsThen b K }
+
+-- each of the first n bytes is the byte of a kind
+unfoldable pub kindsKnown : ℕ → List ℕ → Bool
+kindsKnown zero kinds = true
+kindsKnown (suc n) kinds = pick (eqb (getD kinds n 0) 0) false (pick (ltb attributesByte (getD kinds n 0)) false (kindsKnown n kinds))
+
+-- what the innermost block, or none, takes: a value and the object behind its attributes where no block is open, an item and such an
+-- object in a list, and in a map or an attribute block a key, `=`, the value and its object
+unfoldable pub takes : List Block → automaton.Due → Bool
+takes [] value = true
+takes [] object = true
+takes [] item = false
+takes [] key = false
+takes [] equals = false
+takes (list ∷ K) value = false
+takes (list ∷ K) object = true
+takes (list ∷ K) item = true
+takes (list ∷ K) key = false
+takes (list ∷ K) equals = false
+takes (map ∷ K) value = true
+takes (map ∷ K) object = true
+takes (map ∷ K) item = false
+takes (map ∷ K) key = true
+takes (map ∷ K) equals = true
+takes (attributes ∷ K) value = true
+takes (attributes ∷ K) object = true
+takes (attributes ∷ K) item = false
+takes (attributes ∷ K) key = true
+takes (attributes ∷ K) equals = true
+
+-- ---- 28's tests of the open blocks
+
+-- at most 128 blocks are open
+abbrev pub depthWithin : Blocks → Bool
+depthWithin b = leb (b .depth) mostOpen
+
+-- at most as many as bytes are passed
+abbrev pub depthWithinPassed : Blocks → ℕ → Bool
+depthWithinPassed b passed = leb (b .depth) passed
+
+-- the innermost block, or none, takes the part that is due
+abbrev pub dueFits : Blocks → Bool
+dueFits b = takes (blocksOf b) (dueOf (b .due))
+
+-- blocks that can be open behind so many bytes of a record
+unfoldable pub blocksFit : Blocks → ℕ → Bool
+blocksFit b passed = depthWithin b && depthWithinPassed b passed && kindsKnown (b .depth) (b .kinds) && dueFits b

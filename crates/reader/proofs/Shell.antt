@@ -1,0 +1,92 @@
+-- 28's tests as facts, and what follows from them. Assumes nothing.
+use mathlib.Core.Path.{_≡_, refl, sym, ap, _∙_}
+use mathlib.Core.Bool.{Bool, true, false, _&&_}
+use mathlib.Core.List.{List, [], _∷_, _++_}
+use Prim.Native.Nat.{ℕ, zero, suc, _+_, _-_, _≤_, _<_}
+use native.Mathlib.Omega.{arith}
+use lib.ListN.{length, take, drop}
+use lib.Seq.{slice, length-slice}
+use lib.Dec.{eqb, ltb, leb}
+use borrow.Author.Tests.{eqb-true, leb-true, le-ltb}
+use Rattle.refusal.specs.Numbers.{strangeState}
+use Rattle.refusal.specs.Paper.{Paper, gives, refused, pick}
+use Rattle.scan.specs.Limit.{mostOpen}
+use Rattle.blocks.specs.declared.Blocks.{Blocks}
+use Rattle.blocks.specs.Kept.{kindsKnown, depthWithin, depthWithinPassed, dueFits, blocksFit}
+use Rattle.blocks.specs.Readings.{Reached, Reader, Grows}
+use Rattle.blocks.proofs.Ranged.{Ranged, ranged}
+use Rattle.reader.specs.declared.State.{State}
+use Rattle.reader.specs.Fits.{leastBuffer, mostBuffer, mostOffset, heldOf, fits, lengthsAgree, lengthInRange, placesInOrder, offsetFits, blocksAgree, Fitting}
+use Rattle.reader.specs.Meaning.{told, looked}
+use Rattle.reader.specs.Calls.{separators, skippedOf, stateAt, bufferedOf, readOf, takenOf, filledBy, offerOf, bufferOf, lookOf, nextBy, Within}
+use Rattle.reader.proofs.Buffer.{pick-case, seps-le}
+
+both : (a b : Bool) → a && b ≡ true → (a ≡ true) × (b ≡ true)
+both true b e = (refl, e)
+both false b e = let z : _≡_ {A = ℕ} 0 1 = cc in absurd (omega arith)
+
+fit-depth : (b : Blocks) (passed : ℕ) → blocksFit b passed ≡ true → b .depth ≤ mostOpen
+unfolding blocksFit
+fit-depth b passed e =
+    let x = both (depthWithin b && depthWithinPassed b passed && kindsKnown (b .depth) (b .kinds)) (dueFits b) e in
+    let y = both (depthWithin b && depthWithinPassed b passed) (kindsKnown (b .depth) (b .kinds)) (x .0) in
+    leb-true _ _ (both (depthWithin b) (depthWithinPassed b passed) (y .0) .0)
+
+-- what the test says where it holds
+pub fitting : (s : State) (n : ℕ) → fits s n ≡ true → Fitting s n
+unfolding fits
+fitting s n e =
+    let d = both (lengthsAgree s n && lengthInRange n && placesInOrder s n && offsetFits s) (blocksAgree s) e in
+    let f = both (lengthsAgree s n && lengthInRange n && placesInOrder s n) (offsetFits s) (d .0) in
+    let g = both (lengthsAgree s n && lengthInRange n) (placesInOrder s n) (f .0) in
+    let h = both (lengthsAgree s n) (lengthInRange n) (g .0) in
+    let i = both (leb leastBuffer n) (leb n mostBuffer) (h .1) in
+    let j = both (leb (s .start) (s .place) && leb (s .place) (s .filled)) (leb (s .filled) n) (g .1) in
+    let k = both (leb (s .start) (s .place)) (leb (s .place) (s .filled)) (j .0) in
+    record {
+      len = eqb-true _ _ (h .0);
+      low = leb-true _ _ (i .0);
+      high = leb-true _ _ (i .1);
+      order = leb-true _ _ (k .0);
+      passed = leb-true _ _ (k .1);
+      within = leb-true _ _ (j .1);
+      sum = leb-true _ _ (f .1);
+      depth = fit-depth (s .blocks) (s .place - s .start) (d .1);
+    }
+
+pub skipped-fits : (s : State) (l : List ℕ) → Fitting s (length l) → Fitting (skippedOf s l) (length l)
+unfolding skippedOf
+skipped-fits s l F =
+    let k = separators (slice (s .start) (s .filled) l) in
+    let le : k ≤ s .filled - s .start = rw (length-slice (s .start) (s .filled) l (F .within)) at (seps-le (slice (s .start) (s .filled) l)) in
+    pick-case (λ t. Fitting t (length l)) (eqb (s .place) (s .start)) (stateAt s (s .offset + k) (s .start + k) (s .start + k) (s .blocks)) s
+    (λ _. record { len = F .len; low = F .low; high = F .high; order = omega arith; passed = omega arith; within = F .within; sum = omega arith; depth = F .depth })
+    (λ _. F)
+
+-- what is read lies within the bytes buffered
+pub within : (t : Reader) → Grows t → (s : State) (l : List ℕ) → Fitting s (length l) → Within s (readOf t s l)
+within t G s l F =
+    let n = length-slice (s .start) (s .filled) l (F .within) in
+    let r = ranged t G (bufferedOf s l) (s .place - s .start) (s .blocks) (omega arith) in
+    record { to = omega (arith, r .to); whole = λ q e. (omega (arith, r .whole q e), omega (arith, r .whole q e)) }
+
+-- a piece that is not refused
+module _ (s : State) where
+  pub offer-taken : (n m : ℕ) → fits s n ≡ true → s .closed ≡ false → m ≤ mostOffset - (s .offset + heldOf s) → offerOf s n m ≡ told (gives (takenOf s n m)) (filledBy s (takenOf s n m))
+  unfolding offerOf
+  offer-taken n m t f h = simp (t, f, le-ltb _ _ h)
+
+  pub buffer-taken : (piece l : List ℕ) → fits s (length l) ≡ true → s .closed ≡ false → length piece ≤ mostOffset - (s .offset + heldOf s)
+      → bufferOf s piece l ≡ (bufferedOf s l ++ take (takenOf s (length l) (length piece)) piece) ++ drop (heldOf s + takenOf s (length l) (length piece)) l
+  unfolding bufferOf
+  buffer-taken piece l t f h = simp (t, f, le-ltb _ _ h)
+
+-- next, by 28's test
+module _ (t : Reader) (s : State) (l : List ℕ) where
+  pub next-strange : fits s (length l) ≡ false → nextBy t s l ≡ looked (refused strangeState []) 0 s
+  unfolding nextBy
+  next-strange e = rw e refl
+
+  pub next-looks : fits s (length l) ≡ true → nextBy t s l ≡ lookOf t (skippedOf s l) l
+  unfolding nextBy
+  next-looks e = rw e refl

@@ -1,0 +1,24 @@
+-- `waiting` meets its contract.
+use Prim.Native.Nat.{_-_}
+use borrow.Author.Tests.{eq-eqb, ne-eqb, le-leb, lt-leb}
+use borrow.Author.Needs.{needs}
+use Rattle.reader.proofs.waiting.Statement.{statement}
+use Rattle.reader.proofs.waiting.Tie as tie
+
+sub-held : tie.Need-sub-held
+sub-held c = search needs
+
+returns : tie.Need-returns
+returns c = simp (le-leb _ _ (c .if1 .taken))
+
+returns-2 : tie.Need-returns-2
+returns-2 c = simp (lt-leb _ _ (c .before .before .if1 .left), c .before .if2 .taken, eq-eqb _ _ (c .if3 .taken))
+
+returns-3 : tie.Need-returns-3
+returns-3 c = simp (lt-leb _ _ (c .before .before .if1 .left), c .before .if2 .taken, ne-eqb _ _ (c .if3 .left))
+
+returns-4 : tie.Need-returns-4
+returns-4 c = simp (lt-leb _ _ (c .before .if1 .left), c .if2 .left)
+
+pub waiting-spec : {M : Type 1} → statement M
+waiting-spec = tie.close (tie.spec sub-held returns returns-2 returns-3 returns-4)
