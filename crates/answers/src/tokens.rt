@@ -79,7 +79,7 @@ pub fn token(payload: &[u8], format: Format, out: &mut [u8], n: usize) -> usize 
     if 65540 < payload.len() {
         return output::put_word(out, n, b"too long\n");
     }
-    let found = lexer::next_token(&payload[4..], read::little4(payload, 0), format);
+    let found = cursor::token_at(&payload[4..], read::little4(payload, 0), format);
     let a = put_read(out, n, found);
     text::put_newline(out, a)
 }

@@ -24,7 +24,7 @@ use Rattle.history.proofs.Later as later
 use Rattle.history.proofs.Unread as unread
 use Rattle.history.proofs.Accounted as account
 use Rattle.history.proofs.Stays as stay
-use Rattle.history.proofs.Binary.{binary-unread, binary-settles}
+use Rattle.stream.proofs.Binary.{binary-reader}
 
 module _ (s : State) (l : List ℕ) where
   -- ---- the state
@@ -57,10 +57,10 @@ module _ (s : State) (l : List ℕ) where
     record-leaves = again.record-leaves binary binary-grows s l w
 
     pub each-later-next : (n : ℕ) (vs : List ℕ) → (n ≡ strangeState → ⊥) → nextOf s l .answer ≡ refused n vs → (cs : List Call) → nextOf (run binary (nextOf s l .state) l cs .state) (run binary (nextOf s l .state) l cs .buffer) .answer ≡ refused n vs
-    each-later-next = later.each-later-next binary binary-grows binary-settles s l w
+    each-later-next = later.each-later-next binary binary-grows (binary-reader .settled) s l w
 
     pub each-later-end : nextOf s l .answer ≡ gives ended → (cs : List Call) → nextOf (run binary (nextOf s l .state) l cs .state) (run binary (nextOf s l .state) l cs .buffer) .answer ≡ gives ended
-    each-later-end = later.each-later-end binary binary-grows binary-settles s l w
+    each-later-end = later.each-later-end binary binary-grows (binary-reader .settled) s l w
 
   pub strange-next : (vs : List ℕ) → nextOf s l .answer ≡ refused strangeState vs → nextOf s l ≡ looked (refused strangeState []) 0 s
   strange-next = again.strange-next binary binary-grows s l
@@ -69,7 +69,7 @@ module _ (s : State) (l : List ℕ) where
 
   module _ (m : List ℕ) (e : length l ≡ length m) where
     pub passed-bytes-unread : (s .place ≡ s .start → ⊥) → slice (s .place) (s .filled) l ≡ slice (s .place) (s .filled) m → getD l (s .start) 0 ≡ getD m (s .start) 0 → nextOf s l ≡ nextOf s m
-    passed-bytes-unread = unread.passed-bytes-unread binary binary-grows s l m e binary-unread
+    passed-bytes-unread = unread.passed-bytes-unread binary binary-grows s l m e (binary-reader .unread)
 
     pub past-filled-unread : bufferedOf s l ≡ bufferedOf s m → nextOf s l ≡ nextOf s m
     past-filled-unread = unread.past-filled-unread binary binary-grows s l m e

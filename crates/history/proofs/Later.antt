@@ -15,7 +15,8 @@ use Rattle.reader.specs.declared.State.{State}
 use Rattle.reader.specs.Fits.{heldOf, fits}
 use Rattle.reader.specs.Meaning.{Handed, ended, Told, Looked}
 use Rattle.reader.specs.Calls.{bufferedOf, filledBy, offerOf, bufferOf, shutState, closeOf, isSeparator, separators, skippedOf, readOf, waitOf, handOut, lookOf, nextBy}
-use Rattle.history.specs.Facts.{Slotted, Settles, HandsOut, progressOf}
+use Rattle.stream.specs.Interface.{Settles}
+use Rattle.history.specs.Facts.{Slotted, HandsOut, progressOf}
 use Rattle.history.specs.History.{Call, offer, next, close, callOf, run}
 use Rattle.history.proofs.Readings.{Stops, at-token, stops-longer}
 use Rattle.history.proofs.Offers.{countOf, filledWith, Offering, accepted, turned-away, offering, filled-buffered}

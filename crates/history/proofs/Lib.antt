@@ -1,6 +1,6 @@
 -- The reader's calls in any order: that a state stays fitting (Blocks, Readings, Offers, Kept), which answers come again and what refused
 -- calls leave (Stuck, Again, Later), which bytes are looked at (Unread), the account of every byte (Accounted), what stays (Stays), that
--- an answer means one thing (One), and all of it for binary records (Binary, InBinary).
+-- an answer means one thing (One), and all of it for binary records (InBinary).
 pub mod Blocks
 pub mod Readings
 pub mod Offers
@@ -12,5 +12,4 @@ pub mod Unread
 pub mod Accounted
 pub mod Stays
 pub mod One
-pub mod Binary
 pub mod InBinary

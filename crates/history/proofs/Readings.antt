@@ -16,7 +16,7 @@ use Rattle.blocks.specs.declared.Blocks.{Blocks}
 use Rattle.blocks.specs.Kept.{dueOf, blocksOf, blocksThen, noBlocks}
 use Rattle.blocks.specs.Readings.{Reached, reached, Reader, Grows, Onward, onStep, onToken, readFor, readOn, readBy}
 use Rattle.blocks.proofs.Laws.{read-end, read-turn}
-use Rattle.history.specs.Facts.{Settles}
+use Rattle.stream.specs.Interface.{Settles}
 use Rattle.history.proofs.Blocks.{Sound, sound-none, then-sound}
 
 -- the blocks can be open at the place, and none is behind a whole record

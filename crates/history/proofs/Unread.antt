@@ -19,7 +19,7 @@ use Rattle.reader.specs.Fits.{fits, Fitting}
 use Rattle.reader.specs.Calls.{bufferedOf, offerOf, bufferOf, closeOf, separators, skippedOf, readOf, handOut, lookOf, nextBy}
 use Rattle.reader.proofs.Buffer.{pick-case, slice-at}
 use Rattle.reader.proofs.Shell.{fitting, skipped-fits, within, next-strange, next-looks}
-use Rattle.history.specs.Facts.{Unread}
+use Rattle.stream.specs.Interface.{Unread}
 use Rattle.history.specs.History.{takenFrom}
 use Rattle.history.proofs.Offers.{offered-buffered}
 use Rattle.history.proofs.Stuck.{skip-rest}

@@ -1,4 +1,4 @@
--- What the theorems about the calls speak of: facts asked of a state and of a token reader, and what a call leaves.
+-- What the theorems about the calls speak of: facts asked of a state, and what a call leaves.
 use mathlib.Core.Path.{_≡_}
 use Prim.Native.Nat.{ℕ, _+_, _-_, _≤_, _<_}
 use mathlib.Core.List.{List, [], _++_}
@@ -17,14 +17,6 @@ use Rattle.reader.specs.Calls.{offerOf, bufferOf, closeOf, stateAt, skippedOf, 
 -- the array of the blocks' kinds has its 128 bytes, as every value of the code's type has
 abbrev pub Slotted : Blocks → Type 0
 Slotted b = length (b .kinds) ≡ mostOpen
-
--- a token reader looks at no byte before its place
-abbrev pub Unread : Reader → Type 0
-Unread t = (s u : List ℕ) (p : ℕ) → length s ≡ length u → drop p s ≡ drop p u → t s p ≡ t u p
-
--- a token reader that answers something else than more answers the same whatever bytes stand behind
-abbrev pub Settles : Reader → Type 0
-Settles t = (s u : List ℕ) (p : ℕ) → p ≤ length s → (t s p ≡ more → ⊥) → t (s ++ u) p ≡ t s p
 
 -- one reading where a byte is left unpassed, else none
 abbrev pub unpassed : State → ℕ

@@ -5,7 +5,7 @@ use mathlib.Core.List.{List, [], _∷_, _++_}
 use Prim.Native.Nat.{ℕ, zero, suc, _+_, _-_, _≤_, _<_}
 use native.Mathlib.Numerals.{add-one}
 use native.Mathlib.Omega.{arith}
-use lib.ListN.{length, getD, drop, take, set}
+use lib.ListN.{length, getD, drop, take, set, take-append-drop}
 use lib.Seq.{slice, slice-cons, slice-empty, length-slice, drop-drop, paste, paste-suc, length-paste-head, getD-append-add, getD-drop, getD-take, take-paste, drop-paste, take-all, take-nil}
 use Rattle.refusal.specs.Paper.{pick}
 use Rattle.reader.specs.Calls.{isSeparator, separators}
@@ -50,6 +50,15 @@ shift-turn d from to i h k =
     let v : getD (paste d 0 (slice from to d) i) (from + i) 0 ≡ getD (slice from to d) i 0 = paste-beyond d 0 (slice from to d) i (from + i) (omega arith) (omega arith) (omega arith) ∙ sym (slice-at d from to i h) in
     ap (λ (x : ℕ). set (paste d 0 (slice from to d) i) i x) v ∙ ap (λ (j : ℕ). set (paste d 0 (slice from to d) i) j (getD (slice from to d) i 0)) (sym z)
     ∙ paste-suc d 0 (slice from to d) i 0 (omega arith) (omega arith) ∙ ap (paste d 0 (slice from to d)) (sym (add-one i))
+
+-- bytes that stand at the front are moved by nothing
+pub front-stays : (d : List ℕ) (from to : ℕ) → from ≡ 0 → to ≤ length d → d ≡ paste d 0 (slice from to d) (to - from)
+front-stays d from to z h =
+    let e : to - 0 ≡ to = omega arith in
+    let f : 0 + to ≡ to = omega arith in
+    let n : length (slice 0 to d) ≡ to - 0 = length-slice 0 to d h in
+    let t : take (to - 0) (slice 0 to d) ≡ take to d = take-all (to - 0) (slice 0 to d) (omega arith) in
+    rw z (sym (ap (λ (x : List ℕ). x ++ drop (0 + (to - 0)) d) t ∙ ap (λ (k : ℕ). take to d ++ drop (0 + k) d) e ∙ ap (λ (k : ℕ). take to d ++ drop k d) f ∙ take-append-drop to d))
 
 pub put-turn : (d : List ℕ) (at : ℕ) (s : List ℕ) (i : ℕ) → at + i < length d → i < length s → set (paste d at s i) (at + i) (getD s i 0) ≡ paste d at s (i + 1)
 put-turn d at s i h k = paste-suc d at s i 0 h k ∙ ap (paste d at s) (sym (add-one i))

@@ -198,6 +198,10 @@ fn shift(buf: &mut [u8], from: usize, to: usize)
     requires { ⌜ (from ≤ to) × (to ≤ length (now buf)) ⌝ }
     ensures { λ _. ⌜ now (buf .exit) ≡ paste (now (buf .entry)) 0 (slice from to (now (buf .entry))) (to - from) ⌝ }
 {
+    // Where they stand there already, the cost of a piece does not grow with what is passed.
+    if from == 0 {
+        return;
+    }
     let count = to - from;
     let mut i = 0;
     while i < count {

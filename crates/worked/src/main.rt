@@ -2,6 +2,7 @@
 // literals of the public YSON page, and texts of the documentation of `f64::from_str` that can stand in a number token. Each line of
 // its file stdout was written from those documents.
 mod streams;
+mod tokens;
 
 use libc::STDOUT_FILENO;
 use refusal::Cause;
@@ -24,7 +25,7 @@ pub fn say_number(n: usize) {
 }
 
 // `refused`, the number and the place.
-fn say_refusal(refusal: Refusal) {
+pub fn say_refusal(refusal: Refusal) {
     say(b"refused ");
     say_number(refusal.number());
     say(b" at ");
@@ -33,13 +34,13 @@ fn say_refusal(refusal: Refusal) {
 }
 
 // `refused` and the number.
-fn say_cause(cause: Cause) {
+pub fn say_cause(cause: Cause) {
     say(b"refused ");
     say_number(cause.number());
     say(b"\n");
 }
 
-fn say_bytes(bytes: &[u8]) {
+pub fn say_bytes(bytes: &[u8]) {
     let mut i = 0;
     while i < bytes.len() {
         say(b" ");
@@ -49,7 +50,7 @@ fn say_bytes(bytes: &[u8]) {
     say(b"\n");
 }
 
-fn wide(x: u8) -> u64 {
+pub fn wide(x: u8) -> u64 {
     x as u64
 }
 
@@ -206,7 +207,7 @@ fn number(bytes: &[u8]) {
     }
 }
 
-fn say_kind(token: Token) {
+pub fn say_kind(token: Token) {
     match token {
         Token::Int64(v) => {
             say(b"int64 ");
@@ -320,5 +321,6 @@ fn main() {
     numbers();
     strings();
     scans();
+    tokens::all();
     streams::all();
 }

@@ -42,16 +42,24 @@ pub fn short_frame(stream: &[u8], cut: u64) -> Vec<u8> {
 /// A stream of records, good, damaged or cut, and its pieces.
 pub fn random_frame(rng: &mut Rng, small: bool) -> Vec<u8> {
     let long = !small && rng.once_in(2_000);
+    let middle = !small && !long && rng.once_in(40);
     let n = match rng.below(40) {
         _ if long => [300, 4096, 65_535, 65_536][rng.below(4)],
+        _ if middle => [64, 65, 127, 128, 4096][rng.below(5)],
         0 => rng.pick(&[&0, &1, &63, &65_537, &MOST_N]).to_owned(),
         1 => rng.pick(&[&(MOST_N + 1), &100_000, &u32::MAX]).to_owned(),
         2..=3 => 65_536,
         4..=5 => rng.between(64, 65_536) as u32,
-        6..=20 => rng.between(64, 200) as u32,
+        6..=15 => rng.between(64, 200) as u32,
+        16..=20 => [65, 127, 128, 4096][rng.below(4)],
         _ => 64,
     };
-    let stream = stream(rng, if long { 150_000 } else { 400 }, n as usize);
+    let most = match (long, middle) {
+        (true, _) => 150_000,
+        (_, true) => 3 * n as usize,
+        _ => 400,
+    };
+    let stream = stream(rng, most, n as usize);
     let room = u64::MAX - stream.len() as u64;
     let start = match rng.below(10) {
         0..=5 => 0,

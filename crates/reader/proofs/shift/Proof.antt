@@ -1,5 +1,5 @@
 -- `shift` meets its contract. The loop's invariant: so many bytes are moved, and those to move still stand where they stood.
-use Rattle.reader.proofs.Buffer.{shift-turn}
+use Rattle.reader.proofs.Buffer.{shift-turn, front-stays}
 use mathlib.Core.Path.{_≡_, refl}
 use Prim.Native.Nat.{_-_, _≤_}
 use native.Mathlib.Omega.{arith}
@@ -15,11 +15,14 @@ Inv-loop buf₀ from to count i₀ buf i = (i ≤ count) × ((buf ≡ paste buf�
 abbrev μ-loop : tie.MeasureT-loop
 μ-loop buf₀ from to count i₀ buf i = count - i
 
+returns : tie.Need-returns Inv-loop μ-loop
+returns c = front-stays _ _ _ (c .if1 .taken) (omega arith)
+
 sub-count : tie.Need-sub-count Inv-loop μ-loop
 sub-count c = omega arith
 
 loop-holds : tie.Need-loop-holds Inv-loop μ-loop
-loop-holds c = (omega arith, (paste-zero (c .args .buf .now) 0 (slice (c .args .from) (c .args .to) (c .args .buf .now)), refl))
+loop-holds c = (omega arith, (paste-zero (c .before .args .buf .now) 0 (slice (c .before .args .from) (c .before .args .to) (c .before .args .buf .now)), refl))
 
 add-buf : tie.Need-add-buf Inv-loop μ-loop
 add-buf c = omega arith
@@ -39,14 +42,14 @@ loop-less c = omega arith
 loop-again : tie.Need-loop-again Inv-loop μ-loop
 loop-again c =
     let l = c .before .before .loop in
-    let a = c .before .before .before .args in
+    let a = c .before .before .before .before .args in
     (omega arith, (rw (l .inv .1 .0) (shift-turn (a .buf .now) (a .from) (a .to) (l .i) (omega arith) (omega arith)), simp length-set (l .inv .1 .1)))
 
 same-length : tie.Need-same-length Inv-loop μ-loop
 same-length c = c .before .loop .inv .1 .1
 
-returns : tie.Need-returns Inv-loop μ-loop
-returns c = let e : c .before .loop .i ≡ c .before .before .args .to - c .before .before .args .from = le-antisymm (c .before .loop .inv .0) (c .loop-test .left) in rw e at (c .before .loop .inv .1 .0)
+returns-2 : tie.Need-returns-2 Inv-loop μ-loop
+returns-2 c = let e : c .before .loop .i ≡ c .before .before .before .args .to - c .before .before .before .args .from = le-antisymm (c .before .loop .inv .0) (c .loop-test .left) in rw e at (c .before .loop .inv .1 .0)
 
 pub shift-spec : {M : Type 1} → statement M
 shift-spec =
@@ -54,6 +57,7 @@ shift-spec =
     (tie.spec
     Inv-loop
     μ-loop
+    returns
     sub-count
     loop-holds
     add-buf
@@ -63,4 +67,4 @@ shift-spec =
     loop-less
     loop-again
     same-length
-    returns)
+    returns-2)

@@ -1,0 +1,150 @@
+// A cursor for callers that walk the tokens of a record: its bytes, a place in them and their format.
+// Each method takes the cursor apart and calls a function on the bytes and the place; what a token is, is crate lexer's to say.
+// specs/Cursor.antt says what a peek answers, and specs/Count.antt how tokens are counted.
+ghost use mathlib.Core.Path.{_≡_};
+ghost use lib.ListN.{length};
+ghost use Rattle.token.specs.Meaning.{readMeaning};
+ghost use Rattle.token.specs.Strings.{unescapedMeaning, bytesAnswer, bytesWritten};
+ghost use Rattle.lexer.specs.Lexer.{tokenAt, stringAt};
+ghost use Rattle.cursor.specs.Cursor.{peekMeaning, byteAt};
+ghost use Rattle.cursor.specs.Count.{countMeaning, countOf};
+use refusal::Format;
+use refusal::Refusal;
+use token::Read;
+use token::Unescaped;
+
+pub struct YsonIterator<'a> {
+    pub input: &'a [u8],
+    pub pos: usize,
+    pub format: Format,
+}
+
+// What looking at the next byte answers.
+pub enum Peek {
+    // The byte behind blanks and comments, and its place.
+    Byte { byte: u8, place: usize },
+    // The bytes ended before one.
+    Incomplete,
+    // 26: the place lies beyond the slice.
+    Beyond,
+}
+
+// How many tokens stand in some bytes.
+pub enum Count {
+    // So many, the last of which ends at `end`. Behind it the bytes end, or end inside a token.
+    Tokens {
+        count: usize,
+        end: usize,
+    },
+    // So many, the last of which ends at `end`. Behind it stands what is no token.
+    Refused {
+        count: usize,
+        end: usize,
+        refusal: Refusal,
+    },
+}
+
+impl<'a> YsonIterator<'a> {
+    // The cursor at the first byte.
+    pub fn new(input: &'a [u8], format: Format) -> YsonIterator<'a>
+        ensures { λ r. ⌜ (r .input ≡ input .entry) × (r .pos ≡ 0) × (r .format ≡ format) ⌝ }
+    {
+        YsonIterator {
+            input,
+            pos: 0,
+            format,
+        }
+    }
+
+    // The place that the cursor stands at.
+    pub fn pos(self) -> usize
+        ensures { λ r. ⌜ r ≡ self .entry .pos ⌝ }
+    {
+        self.pos
+    }
+
+    // The same cursor at another place. One beyond the bytes is refused where the cursor is used.
+    pub fn moved(self, pos: usize) -> YsonIterator<'a>
+        ensures { λ r. ⌜ (r .input ≡ self .entry .input) × (r .pos ≡ pos) × (r .format ≡ self .entry .format) ⌝ }
+    {
+        YsonIterator {
+            input: self.input,
+            pos,
+            format: self.format,
+        }
+    }
+
+    // The token at the place of the cursor, and the place after it, which `moved` takes.
+    pub fn next_token(self) -> Read
+        ensures { λ r. ⌜ readMeaning r ≡ tokenAt (self .entry .format) (now (self .entry .input)) (self .entry .pos) ⌝ }
+    {
+        lexer::next_token(self.input, self.pos, self.format)
+    }
+
+    // The next byte that is not ignored.
+    pub fn peek_byte(self) -> Peek
+        ensures { λ r. ⌜ peekMeaning r ≡ byteAt (self .entry .format) (now (self .entry .input)) (self .entry .pos) ⌝ }
+    {
+        peek_at(self.input, self.pos, self.format)
+    }
+
+    // The bytes of the string at the place of the cursor, into `out`. Only an accepted call writes.
+    pub fn string_bytes(self, out: &mut [u8]) -> Unescaped
+        ensures answer { λ r. ⌜ unescapedMeaning r ≡ bytesAnswer (stringAt (self .entry .format) (now (self .entry .input)) (self .entry .pos)) (length (now (out .entry))) ⌝ }
+        ensures written { λ r. ⌜ now (out .exit) ≡ bytesWritten (stringAt (self .entry .format) (now (self .entry .input)) (self .entry .pos)) (now (out .entry)) ⌝ }
+    {
+        lexer::string_bytes(self.input, self.pos, self.format, out)
+    }
+}
+
+// The first byte from a place on that is not ignored.
+pub fn peek_at(input: &[u8], at: usize, format: Format) -> Peek
+    ensures { λ r. ⌜ peekMeaning r ≡ byteAt format (now (input .entry)) at ⌝ }
+{
+    if input.len() < at {
+        return Peek::Beyond;
+    }
+    let place = lexer::skip(input, at, format);
+    if place < input.len() {
+        return Peek::Byte {
+            byte: input[place],
+            place,
+        };
+    }
+    Peek::Incomplete
+}
+
+// The token at a place, read by a cursor: for callers that hold no cursor themselves.
+pub fn token_at(input: &[u8], pos: usize, format: Format) -> Read
+    ensures { λ r. ⌜ readMeaning r ≡ tokenAt format (now (input .entry)) pos ⌝ }
+{
+    YsonIterator::new(input, format).moved(pos).next_token()
+}
+
+// Walks the tokens from the first byte on, until the bytes end or what stands there is no token, and counts them.
+pub fn count_tokens(input: &[u8], format: Format) -> Count
+    ensures { λ r. ⌜ countMeaning r ≡ countOf format (now (input .entry)) ⌝ }
+{
+    let mut count = 0usize;
+    let mut end = 0usize;
+    while end < input.len() {
+        match token_at(input, end, format) {
+            Read::Token {
+                token: _,
+                first: _,
+                next,
+            } => {
+                count += 1;
+                end = next;
+            }
+            Read::Incomplete => return Count::Tokens { count, end },
+            Read::Refused { refusal } => return Count::Refused {
+                count,
+                end,
+                refusal,
+            },
+            Read::Beyond => return Count::Tokens { count, end },
+        }
+    }
+    Count::Tokens { count, end }
+}

@@ -1,0 +1,131 @@
+// The tokens of a record, walked by the cursor, how many there are, and what stands at a place.
+use crate::say;
+use crate::say_bytes;
+use crate::say_cause;
+use crate::say_kind;
+use crate::say_number;
+use crate::say_refusal;
+use crate::wide;
+use cursor::Count;
+use cursor::Peek;
+use libc::STDOUT_FILENO;
+use refusal::Cause;
+use refusal::Format;
+use token::Read;
+use token::Token;
+
+// Which token stands somewhere.
+fn say_token(token: Token) {
+    match token {
+        Token::BeginAttributes => say(b"<"),
+        Token::EndAttributes => say(b">"),
+        Token::BeginList => say(b"["),
+        Token::EndList => say(b"]"),
+        Token::BeginMap => say(b"{"),
+        Token::EndMap => say(b"}"),
+        Token::String { start: _, len } => {
+            say(b"string of ");
+            say_number(len);
+        }
+        Token::Escaped { start: _, len } => {
+            say(b"escaped string of ");
+            say_number(len);
+        }
+        Token::Entity => say(b"#"),
+        Token::KeyValueSeparator => say(b"="),
+        Token::ItemSeparator => say(b";"),
+        _ => say_kind(token),
+    }
+}
+
+// The tokens of some bytes, a line for each, as the cursor reads them.
+fn say_tokens(bytes: &[u8], format: Format) {
+    let mut at = 0;
+    while at < bytes.len() {
+        match cursor::token_at(bytes, at, format) {
+            Read::Token { token, first, next } => {
+                say_token(token);
+                say(b" at ");
+                say_number(first);
+                say(b" end ");
+                say_number(next);
+                say(b"\n");
+                at = next;
+            }
+            Read::Incomplete => return,
+            Read::Refused { refusal: _ } => return,
+            Read::Beyond => return,
+        }
+    }
+}
+
+// How many they are.
+fn say_count(bytes: &[u8], format: Format) {
+    match cursor::count_tokens(bytes, format) {
+        Count::Tokens { count, end } => {
+            say_number(count);
+            say(b" tokens to ");
+            say_number(end);
+            say(b"\n");
+        }
+        Count::Refused {
+            count,
+            end,
+            refusal,
+        } => {
+            say_number(count);
+            say(b" tokens to ");
+            say_number(end);
+            say(b", then ");
+            say_refusal(refusal);
+        }
+    }
+}
+
+fn text_tokens(bytes: &[u8]) {
+    say(bytes);
+    say(b"\n");
+    say_tokens(bytes, Format::Text);
+    say_count(bytes, Format::Text);
+}
+
+fn binary_tokens(bytes: &[u8]) {
+    say(b"binary");
+    say_bytes(bytes);
+    say_tokens(bytes, Format::Binary);
+    say_count(bytes, Format::Binary);
+}
+
+// The first byte of some text from a place on that is not ignored.
+fn peek(bytes: &[u8], at: usize) {
+    say(bytes);
+    say(b" from ");
+    say_number(at);
+    say(b" : ");
+    match cursor::peek_at(bytes, at, Format::Text) {
+        Peek::Byte { byte, place } => {
+            io::print_hex(STDOUT_FILENO, wide(byte), 2);
+            say(b" at ");
+            say_number(place);
+            say(b"\n");
+        }
+        Peek::Incomplete => say(b"incomplete\n"),
+        Peek::Beyond => say_cause(Cause::BeyondSlice),
+    }
+}
+
+// The tokens of document 01's three records and of some text, whole, refused and cut short.
+pub fn all() {
+    say(b"tokens\n");
+    binary_tokens(b"{\x01\x02a=\x02\x02}");
+    binary_tokens(b"[\x02\x02\x02\x04]");
+    binary_tokens(b"<>#");
+    binary_tokens(b"[ ]");
+    binary_tokens(b"[\x01\x04a");
+    text_tokens(b"<a=1>{b=\"x\\n\";c=[%true;#;-5;5u;5.]} // d");
+    text_tokens(b"[1 2 \"");
+    text_tokens(b"a/b");
+    peek(b" /* a */ [", 0);
+    peek(b" /* a */ [", 10);
+    peek(b" /* a */ [", 11);
+}
