@@ -40,13 +40,18 @@ pub fn say_cause(cause: Cause) {
     say(b"\n");
 }
 
-pub fn say_bytes(bytes: &[u8]) {
+// Bytes in hex, a blank before each.
+pub fn say_hex(bytes: &[u8]) {
     let mut i = 0;
     while i < bytes.len() {
         say(b" ");
         io::print_hex(STDOUT_FILENO, wide(bytes[i]), 2);
         i += 1;
     }
+}
+
+pub fn say_bytes(bytes: &[u8]) {
+    say_hex(bytes);
     say(b"\n");
 }
 

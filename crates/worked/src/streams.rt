@@ -1,5 +1,6 @@
 // The stream reader's answers, each refusal from 20 to 28 once but 26 and 27, which are no answers of its calls.
 use crate::say;
+use crate::say_hex;
 use crate::say_number;
 use libc::STDOUT_FILENO;
 use reader::Closing;
@@ -66,7 +67,7 @@ fn show_values(number: usize, offset: u64, value: usize) {
 }
 
 // What next answers.
-fn show_found(answer: Found, readings: usize) {
+fn show_found(answer: Found, readings: usize, buf: &[u8]) {
     say(b"next : ");
     match answer {
         Found::Record {
@@ -82,6 +83,8 @@ fn show_found(answer: Found, readings: usize) {
             say(b" offset ");
             say_offset(offset);
             show_mark(mark);
+            say(b":");
+            say_hex(reader::record(buf, place, length));
         }
         Found::Malformed { offset, refusal } => {
             show_values(refusal::MALFORMED_RECORD, offset, refusal.number());
@@ -111,7 +114,7 @@ fn piece(state: State, buf: &mut [u8], bytes: &[u8]) -> State {
 fn next(state: State, buf: &[u8]) -> State {
     let t = state.next(buf);
     let answer = t.answer;
-    show_found(answer, t.readings);
+    show_found(answer, t.readings, buf);
     t.state
 }
 

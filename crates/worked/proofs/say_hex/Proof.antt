@@ -1,14 +1,14 @@
 use lib.ListN.{length}
 use Prim.Native.Nat.{_≤_, _-_}
 use borrow.Author.Needs.{needs}
-use Rattle.worked.proofs.say_bytes.Statement.{statement}
-use Rattle.worked.proofs.say_bytes.Tie as tie
+use Rattle.worked.proofs.say_hex.Statement.{statement}
+use Rattle.worked.proofs.say_hex.Tie as tie
 
 abbrev Inv-loop : tie.InvT-loop
-Inv-loop bytes i₀ t3 t4 i = i ≤ length bytes
+Inv-loop bytes i₀ t3 i = i ≤ length bytes
 
 abbrev μ-loop : tie.MeasureT-loop
-μ-loop bytes i₀ t3 t4 i = length bytes - i
+μ-loop bytes i₀ t3 i = length bytes - i
 
 loop-holds : tie.Need-loop-holds Inv-loop μ-loop
 loop-holds c = search needs
@@ -37,17 +37,11 @@ loop-less c = search needs
 loop-again : tie.Need-loop-again Inv-loop μ-loop
 loop-again c = search needs
 
-slice-aggregate-say-2 : tie.Need-slice-aggregate-say-2 Inv-loop μ-loop
-slice-aggregate-say-2 c = search needs
-
-say-requires-2 : tie.Need-say-requires-2 Inv-loop μ-loop
-say-requires-2 c κs = search needs
-
 returns : tie.Need-returns Inv-loop μ-loop
 returns c = search needs
 
-pub say-bytes-spec : {M : Type 1} → statement M
-say-bytes-spec =
+pub say-hex-spec : {M : Type 1} → statement M
+say-hex-spec =
     tie.close
     (tie.spec
     Inv-loop
@@ -61,6 +55,4 @@ say-bytes-spec =
     add-i
     loop-less
     loop-again
-    slice-aggregate-say-2
-    say-requires-2
     returns)
