@@ -321,6 +321,26 @@ fn scans() {
     binary(b"\x03\x00\x00\x00\x00\x00\x00\xf0\x7f");
 }
 
+// What the C call answers for a format number and some bytes.
+fn call(format: u64, bytes: &[u8]) {
+    io::print_decimal(STDOUT_FILENO, format);
+    say(b",");
+    say_hex(bytes);
+    say(b" : ");
+    say_signed(abi::yson_scan(format, bytes));
+    say(b"\n");
+}
+
+// A length, Incomplete, a refusal, and a format that there is not.
+fn calls() {
+    say(b"C call\n");
+    call(0, b"#");
+    call(1, b"[1 2]");
+    call(0, b"\x01\x81");
+    call(0, b"\x01\x01");
+    call(2, b"#");
+}
+
 fn main() {
     varints();
     numbers();
@@ -328,4 +348,5 @@ fn main() {
     scans();
     tokens::all();
     streams::all();
+    calls();
 }

@@ -11,18 +11,13 @@ use cursor::Peek;
 use libc::STDOUT_FILENO;
 use refusal::Cause;
 use refusal::Format;
+use token::Kind;
 use token::Read;
 use token::Token;
 
-// Which token stands somewhere.
-fn say_token(token: Token) {
+// A string, with or without escapes.
+fn say_string(token: Token) {
     match token {
-        Token::BeginAttributes => say(b"<"),
-        Token::EndAttributes => say(b">"),
-        Token::BeginList => say(b"["),
-        Token::EndList => say(b"]"),
-        Token::BeginMap => say(b"{"),
-        Token::EndMap => say(b"}"),
         Token::String { start: _, len } => {
             say(b"string of ");
             say_number(len);
@@ -31,10 +26,30 @@ fn say_token(token: Token) {
             say(b"escaped string of ");
             say_number(len);
         }
+        _ => say(b"no string"),
+    }
+}
+
+fn say_scalar(token: Token) {
+    match token {
         Token::Entity => say(b"#"),
-        Token::KeyValueSeparator => say(b"="),
-        Token::ItemSeparator => say(b";"),
         _ => say_kind(token),
+    }
+}
+
+// Which token stands somewhere, by its kind.
+fn say_token(token: Token) {
+    match token.kind() {
+        Kind::OpenAttributes => say(b"<"),
+        Kind::CloseAttributes => say(b">"),
+        Kind::OpenList => say(b"["),
+        Kind::CloseList => say(b"]"),
+        Kind::OpenMap => say(b"{"),
+        Kind::CloseMap => say(b"}"),
+        Kind::Equals => say(b"="),
+        Kind::Semicolon => say(b";"),
+        Kind::Text => say_string(token),
+        Kind::Scalar => say_scalar(token),
     }
 }
 
