@@ -75,7 +75,11 @@ fn twin() -> io::Result<()> {
     loop {
         match reader.next_record() {
             Ok(Some(record)) => {
-                let mark = if record.bytes[0] == b'<' { "control" } else { "row" };
+                let mark = if record.bytes[0] == b'<' {
+                    "control"
+                } else {
+                    "row"
+                };
                 end = record.offset + record.bytes.len() as u64;
                 writeln!(out, "{} {} {mark}", record.offset, record.bytes.len())?;
                 records += 1;
@@ -111,12 +115,20 @@ fn run(words: &[String], input: &Path, output: Option<&Path>) -> io::Result<Dura
         .status()?;
     let time = begin.elapsed();
     if !status.success() {
-        return Err(io::Error::other(format!("{} ended with {status}", words[0])));
+        return Err(io::Error::other(format!(
+            "{} ended with {status}",
+            words[0]
+        )));
     }
     Ok(time)
 }
 
-fn measure(folder: &Path, rounds: u32, records: &[String], deliveries: &[String]) -> io::Result<()> {
+fn measure(
+    folder: &Path,
+    rounds: u32,
+    records: &[String],
+    deliveries: &[String],
+) -> io::Result<()> {
     let me = std::env::current_exe()?.to_string_lossy().into_owned();
     let twin = vec![me, "twin".to_owned()];
     println!("program records beside its twin, 64 MB, best of {rounds}");
@@ -125,7 +137,7 @@ fn measure(folder: &Path, rounds: u32, records: &[String], deliveries: &[String]
             whole(folder, rounds, &corpus, records, &twin)?;
         }
     }
-    println!("program records, time per byte of 64 KB, 1 MB and 16 MB to that of 64 MB");
+    println!("program records, time per byte of 1 MB, 4 MB, 16 MB and 64 MB, to that of 64 MB");
     for corpus in all() {
         if corpus.name.starts_with("flat") && corpus.format == Format::Binary {
             growth(folder, rounds, &corpus, records)?;
@@ -139,6 +151,26 @@ fn measure(folder: &Path, rounds: u32, records: &[String], deliveries: &[String]
             println!("{:24} {:5.2}", corpus.name, ratio(new, old));
         }
     }
+    println!("the reader, time per byte of streams of 1 KB, 8 KB and 64 KB, to that of 64 KB");
+    for corpus in all() {
+        if corpus.name == "tiny records" {
+            let mut times = Vec::new();
+            for length in [1 << 10, 8 << 10, N] {
+                let bytes = &corpus.bytes[..last_separator(&corpus.bytes[..length])];
+                let (new, _) = delivered(folder, rounds, bytes, N, deliveries)?;
+                times.push(new.as_secs_f64() / bytes.len() as f64);
+            }
+            println!("{:24} {}", corpus.name, to_last(&times));
+        }
+    }
+    println!("the reader, time per token at depths 1, 16, 64 and 128, to that at 128");
+    let mut times = Vec::new();
+    for depth in [1, 16, 64, 128] {
+        let (bytes, tokens) = nested(depth);
+        let (new, _) = delivered(folder, rounds, &bytes, N, deliveries)?;
+        times.push(new.as_secs_f64() / tokens as f64);
+    }
+    println!("{:24} {}", "integers in lists", to_last(&times));
     println!("one record of {N} bytes in deliveries: nanoseconds a delivery, and to the framing");
     let record = long_record();
     for size in [1, 16, 256, 4096, N] {
@@ -157,8 +189,33 @@ fn ratio(new: Duration, old: Duration) -> f64 {
     new.as_secs_f64() / old.as_secs_f64()
 }
 
+/// Each time to the last.
+fn to_last(times: &[f64]) -> String {
+    let last = times.last().copied().unwrap_or(1.0);
+    let ratios: Vec<String> = times
+        .iter()
+        .map(|time| format!("{:.2}", time / last))
+        .collect();
+    ratios.join(" ")
+}
+
+/// A list of integers inside so many lists, and how many tokens that is.
+fn nested(depth: usize) -> (Vec<u8>, usize) {
+    let mut bytes = vec![b'['; depth];
+    let mut tokens = 2 * depth;
+    while bytes.len() + depth + 3 <= N {
+        bytes.extend_from_slice(b"\x02\x04;");
+        tokens += 2;
+    }
+    bytes.extend(vec![b']'; depth]);
+    (bytes, tokens)
+}
+
 fn last_separator(bytes: &[u8]) -> usize {
-    bytes.iter().rposition(|byte| *byte == b';').map_or(0, |at| at + 1)
+    bytes
+        .iter()
+        .rposition(|byte| *byte == b';')
+        .map_or(0, |at| at + 1)
 }
 
 /// A list of integers, strings and maps that takes exactly N bytes.
@@ -184,14 +241,23 @@ fn repeated(corpus: &Corpus, length: usize) -> Vec<u8> {
 }
 
 /// Both programs over one file, by turns.
-fn whole(folder: &Path, rounds: u32, corpus: &Corpus, records: &[String], twin: &[String]) -> io::Result<()> {
+fn whole(
+    folder: &Path,
+    rounds: u32,
+    corpus: &Corpus,
+    records: &[String],
+    twin: &[String],
+) -> io::Result<()> {
     let input = folder.join("stream");
     std::fs::write(&input, repeated(corpus, FILE))?;
     let outputs = [folder.join("new"), folder.join("old")];
     run(records, &input, Some(&outputs[0]))?;
     run(twin, &input, Some(&outputs[1]))?;
     if std::fs::read(&outputs[0])? != std::fs::read(&outputs[1])? {
-        return Err(io::Error::other(format!("{}: records and its twin differ", corpus.name)));
+        return Err(io::Error::other(format!(
+            "{}: records and its twin differ",
+            corpus.name
+        )));
     }
     let mut best = [Duration::MAX; 2];
     for round in 0..rounds {
@@ -211,7 +277,7 @@ fn growth(folder: &Path, rounds: u32, corpus: &Corpus, records: &[String]) -> io
     let empty = folder.join("empty");
     std::fs::write(&empty, b"")?;
     let mut best = Vec::new();
-    for length in [N, 1 << 20, 16 << 20, FILE] {
+    for length in [1 << 20, 4 << 20, 16 << 20, FILE] {
         let bytes = repeated(corpus, length);
         std::fs::write(&input, &bytes)?;
         let (mut time, mut start) = (Duration::MAX, Duration::MAX);
@@ -221,8 +287,7 @@ fn growth(folder: &Path, rounds: u32, corpus: &Corpus, records: &[String]) -> io
         }
         best.push(time.saturating_sub(start).as_secs_f64() / bytes.len() as f64);
     }
-    let ratios: Vec<String> = best.iter().map(|time| format!("{:.2}", time / best[3])).collect();
-    println!("{:24} {}", corpus.name, ratios.join(" "));
+    println!("{:24} {}", corpus.name, to_last(&best));
     Ok(())
 }
 
@@ -253,7 +318,13 @@ fn framed(bytes: &[u8], size: usize) -> u64 {
 }
 
 /// The time of one pass over a stream in memory: the reader's, and the framing's.
-fn delivered(folder: &Path, rounds: u32, bytes: &[u8], size: usize, words: &[String]) -> io::Result<(Duration, Duration)> {
+fn delivered(
+    folder: &Path,
+    rounds: u32,
+    bytes: &[u8],
+    size: usize,
+    words: &[String],
+) -> io::Result<(Duration, Duration)> {
     let input = |passes: u32| -> io::Result<std::path::PathBuf> {
         let path = folder.join(format!("deliveries-{passes}"));
         let mut all = (size as u32).to_le_bytes().to_vec();
@@ -267,7 +338,10 @@ fn delivered(folder: &Path, rounds: u32, bytes: &[u8], size: usize, words: &[Str
     let mut passes = 16;
     loop {
         let path = input(passes)?;
-        if run(words, &path, None)?.saturating_sub(run(words, &few, None)?) > Duration::from_millis(40) || passes > 1 << 24 {
+        if run(words, &path, None)?.saturating_sub(run(words, &few, None)?)
+            > Duration::from_millis(40)
+            || passes > 1 << 24
+        {
             break;
         }
         passes *= 4;
@@ -278,7 +352,8 @@ fn delivered(folder: &Path, rounds: u32, bytes: &[u8], size: usize, words: &[Str
     let records = framed(bytes, size);
     let once = begin.elapsed();
     old = old.min(once);
-    let repeats = (Duration::from_millis(20).as_nanos() / once.as_nanos().max(1)).clamp(1, 1 << 20) as u32;
+    let repeats =
+        (Duration::from_millis(20).as_nanos() / once.as_nanos().max(1)).clamp(1, 1 << 20) as u32;
     for _ in 0..rounds.max(3) {
         new = new.min(run(words, &many, None)?);
         start = start.min(run(words, &few, None)?);
