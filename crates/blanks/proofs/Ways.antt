@@ -5,11 +5,13 @@ use mathlib.Core.List.{List, [], _∷_}
 use Prim.Native.Nat.{ℕ, suc, _+_, _≤_, _<_}
 use native.Mathlib.Numerals.{add-one}
 use native.Mathlib.Omega.{arith}
-use borrow.Author.Tests.{eq-eqb, ne-eqb}
+use borrow.Author.Tests.{eq-eqb, ne-eqb, eqb-false}
 use lib.Dec.{eqb}
 use lib.ListN.{length, getD, drop, drop-of-length-le}
 use lib.Seq.{drop-cons}
 use Rattle.refusal.specs.Paper.{pick}
+use Rattle.search.specs.First.{firstFrom, isByte}
+use Rattle.search.proofs.Laws.{same-at-first}
 use Rattle.blanks.specs.Skip.{isBlank, ignored, inLine, inBlock, skipFrom}
 
 -- the five blanks, in the code's order
@@ -20,6 +22,10 @@ blank-rest b h i j k = rw (ne-eqb _ _ h, ne-eqb _ _ i, ne-eqb _ _ j, ne-eqb _ _ 
     go : (t : Bool) → t ≡ pick t true false
     go true = refl
     go false = refl
+
+pub blank-space : (b : ℕ) → b ≡ 32 → isBlank b ≡ true
+unfolding isBlank
+blank-space b e = rw e
 
 -- no blank is above 20
 pub blank-above : (b : ℕ) → 32 < b → isBlank b ≡ false
@@ -130,3 +136,13 @@ module _ (s : List ℕ) (p : ℕ) (h : p + 1 < length s) where
       go : (t : Bool) → eqb (getD s p 0) 42 ≡ t → p + inBlock (drop p s) ≡ p + 1 + inBlock (drop (p + 1) s)
       go true e = rw (drop-two, drop-more s (p + 1) h, e, ne-eqb _ _ f) (omega arith)
       go false e = rw (drop-two, drop-more s (p + 1) h, e) (omega arith)
+
+-- in a comment nothing changes up to the byte that may end it
+module _ (s : List ℕ) where
+  pub line-jump : (p : ℕ) → lineFrom s p ≡ lineFrom s (firstFrom (isByte 10) s p)
+  unfolding isByte
+  line-jump = same-at-first (isByte 10) s (lineFrom s) (λ p h e. line-more s p h (eqb-false _ _ e))
+
+  pub block-jump : (p : ℕ) → blockFrom s p ≡ blockFrom s (firstFrom (isByte 42) s p)
+  unfolding isByte
+  block-jump = same-at-first (isByte 42) s (blockFrom s) (λ p h e. block-more s p h (eqb-false _ _ e))

@@ -1,4 +1,5 @@
-// Where does text go on after blanks and comments? `skip_ignored` answers that, and specs/Skip.antt decides it.
+// Where does text go on after blanks and comments? `skip_ignored` answers that, and specs/Skip.antt decides it. The end of a comment is
+// looked for by crate search.
 ghost use mathlib.Core.Path.{_≡_};
 ghost use Rattle.blanks.specs.Skip.{isBlank, skipFrom};
 
@@ -22,14 +23,18 @@ pub fn is_blank(b: u8) -> bool
 }
 
 // The first place from `at` on that is no blank and in no comment: `at` itself where nothing is ignored there, or where it
-// lies beyond the input. Most calls find a byte above the blanks that is no `/`, so that is tested first.
+// lies beyond the input.
 pub fn skip_ignored(input: &[u8], at: usize) -> usize
     ensures { λ r. ⌜ r ≡ skipFrom (now (input .entry)) at ⌝ }
 {
     let mut p = at;
     'blanks: while p < input.len() {
         let b = input[p];
-        if b <= b' ' {
+        if b == b' ' {
+            p += 1;
+            continue 'blanks;
+        }
+        if b < b' ' {
             if is_blank(b) {
                 p += 1;
                 continue 'blanks;
@@ -55,6 +60,7 @@ pub fn skip_ignored(input: &[u8], at: usize) -> usize
                 if d == b'\n' {
                     continue 'blanks;
                 }
+                p = search::find_byte(input, p, b'\n');
             }
         }
         if c != b'*' {
@@ -75,7 +81,34 @@ pub fn skip_ignored(input: &[u8], at: usize) -> usize
                         continue 'blanks;
                     }
                 }
+            } else {
+                p = search::find_byte(input, p, b'*');
             }
+        }
+    }
+    p
+}
+
+// As `skip_ignored`, which is asked at a `/` alone: for callers that mostly stand at a token, or a few blanks before one.
+pub fn first_place(input: &[u8], at: usize) -> usize
+    ensures { λ r. ⌜ r ≡ skipFrom (now (input .entry)) at ⌝ }
+{
+    let mut p = at;
+    while p < input.len() {
+        let a = input[p];
+        if a == b' ' {
+            p += 1;
+        } else {
+            if b' ' < a {
+                if a != b'/' {
+                    return p;
+                }
+                return skip_ignored(input, p);
+            }
+            if !is_blank(a) {
+                return p;
+            }
+            p += 1;
         }
     }
     p

@@ -1,8 +1,8 @@
 -- A whole token's kind is told by its first byte. Assumes nothing.
 use mathlib.Core.Path.{_≡_, refl, sym, ap, _∙_}
 use mathlib.Core.Bool.{Bool, true, false}
-use mathlib.Core.List.{List, [], _∷_}
-use Prim.Native.Nat.{ℕ, zero, suc, _+_, _-_, _≤_, _<_}
+use mathlib.Core.List.{List}
+use Prim.Native.Nat.{ℕ, _+_, _-_, _≤_, _<_}
 use native.Mathlib.Omega.{arith}
 use lib.Dec.{eqb, ltb}
 use lib.IntN.{ℤ, pos, negsuc}
@@ -16,7 +16,7 @@ use Rattle.varint.specs.Zigzag.{varintAt}
 use Rattle.token.specs.declared.Token.{Token}
 use Rattle.token.specs.declared.Token.the-variants as token
 use Rattle.token.specs.declared.Kind.{Kind}
-use Rattle.token.specs.declared.Kind.the-variants.{Text, Scalar, OpenList, CloseList, OpenMap, CloseMap, OpenAttributes, CloseAttributes, Equals, Semicolon}
+use Rattle.token.specs.declared.Kind.the-variants.{Text, Scalar}
 use Rattle.token.specs.declared.Mark.{Mark}
 use Rattle.token.specs.declared.Mark.the-variants.{Is, Not}
 use Rattle.token.specs.Meaning.{kindOf, kindsOf}
@@ -34,66 +34,11 @@ pub pick-case : {A : Type 0} (P : A → Type 0) (t : Bool) (x y : A) → (t ≡ 
 pick-case P true x y f g = f refl
 pick-case P false x y f g = g refl
 
--- the byte of a kind that has one of its own
-byteFor : Kind → ℕ
-byteFor Text = 0x01
-byteFor Scalar = 0
-byteFor OpenList = 0x5B
-byteFor CloseList = 0x5D
-byteFor OpenMap = 0x7B
-byteFor CloseMap = 0x7D
-byteFor OpenAttributes = 0x3C
-byteFor CloseAttributes = 0x3E
-byteFor Equals = 0x3D
-byteFor Semicolon = 0x3B
-
-abbrev Fair : ℕ → Kind → Type 0
-Fair b k = (byteFor k ≡ 0 → ⊥) → byteFor k ≡ b
-
-kind-fair : (b : ℕ) → Fair b (kindBy b)
-unfolding kindBy byteFor
-kind-fair b =
-    pick-case (Fair b) (eqb b 0x5B) _ _ (λ e h. sym (eqb-true b 0x5B e))
-    λ _. pick-case (Fair b) (eqb b 0x5D) _ _ (λ e h. sym (eqb-true b 0x5D e))
-    λ _. pick-case (Fair b) (eqb b 0x7B) _ _ (λ e h. sym (eqb-true b 0x7B e))
-    λ _. pick-case (Fair b) (eqb b 0x7D) _ _ (λ e h. sym (eqb-true b 0x7D e))
-    λ _. pick-case (Fair b) (eqb b 0x3C) _ _ (λ e h. sym (eqb-true b 0x3C e))
-    λ _. pick-case (Fair b) (eqb b 0x3E) _ _ (λ e h. sym (eqb-true b 0x3E e))
-    λ _. pick-case (Fair b) (eqb b 0x3D) _ _ (λ e h. sym (eqb-true b 0x3D e))
-    λ _. pick-case (Fair b) (eqb b 0x3B) _ _ (λ e h. sym (eqb-true b 0x3B e))
-    λ _. pick-case (Fair b) (eqb b 0x01) _ _ (λ e h. sym (eqb-true b 0x01 e)) (λ _ h. absurd (h refl))
-
-only : (b : ℕ) (k : Kind) → (byteFor k ≡ 0 → ⊥) → kindBy b ≡ k → byteFor k ≡ b
-only b k h e = rw e at (kind-fair b) h
-
-module _ (b : ℕ) where
-  pub not-text : (b ≡ 0x01 → ⊥) → kindBy b ≡ Text → ⊥
-  unfolding byteFor
-  not-text h e = h (sym (only b Text (λ z. omega arith) e))
-
-  pub not-close-list : (b ≡ 0x5D → ⊥) → kindBy b ≡ CloseList → ⊥
-  unfolding byteFor
-  not-close-list h e = h (sym (only b CloseList (λ z. omega arith) e))
-
-  pub not-close-map : (b ≡ 0x7D → ⊥) → kindBy b ≡ CloseMap → ⊥
-  unfolding byteFor
-  not-close-map h e = h (sym (only b CloseMap (λ z. omega arith) e))
-
-  pub not-attributes : (b ≡ 0x3C → ⊥) → kindBy b ≡ OpenAttributes → ⊥
-  unfolding byteFor
-  not-attributes h e = h (sym (only b OpenAttributes (λ z. omega arith) e))
-
-  pub not-close-attributes : (b ≡ 0x3E → ⊥) → kindBy b ≡ CloseAttributes → ⊥
-  unfolding byteFor
-  not-close-attributes h e = h (sym (only b CloseAttributes (λ z. omega arith) e))
-
-  pub not-equals : (b ≡ 0x3D → ⊥) → kindBy b ≡ Equals → ⊥
-  unfolding byteFor
-  not-equals h e = h (sym (only b Equals (λ z. omega arith) e))
-
-  pub not-semicolon : (b ≡ 0x3B → ⊥) → kindBy b ≡ Semicolon → ⊥
-  unfolding byteFor
-  not-semicolon h e = h (sym (only b Semicolon (λ z. omega arith) e))
+-- a byte that is no mark's and no string's
+pub is-scalar : (b : ℕ) → (b ≡ 0x5B → ⊥) → (b ≡ 0x5D → ⊥) → (b ≡ 0x7B → ⊥) → (b ≡ 0x7D → ⊥) → (b ≡ 0x3C → ⊥) → (b ≡ 0x3E → ⊥) → (b ≡ 0x3D → ⊥) → (b ≡ 0x3B → ⊥) → (b ≡ 0x01 → ⊥) → kindBy b ≡ Scalar
+unfolding kindBy
+is-scalar b h₁ h₂ h₃ h₄ h₅ h₆ h₇ h₈ h₉ =
+    rw (ne-eqb b 0x5B h₁, ne-eqb b 0x5D h₂, ne-eqb b 0x7B h₃, ne-eqb b 0x7D h₄, ne-eqb b 0x3C h₅, ne-eqb b 0x3E h₆, ne-eqb b 0x3D h₇, ne-eqb b 0x3B h₈, ne-eqb b 0x01 h₉)
 
 -- ---- the kind of a token, by the byte at its place
 

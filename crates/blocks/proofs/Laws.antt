@@ -15,7 +15,8 @@ use Rattle.token.specs.declared.Kind.{Kind}
 use Rattle.token.specs.Ends.{endOf}
 use Rattle.binary.specs.Binary.{binaryFrom}
 use Rattle.lexer.specs.Lexer.{kindAt}
-use Rattle.scan.specs.Step.{Step, go, finished, wrong, deep, step}
+use Rattle.scan.specs.Step.{list, map, attributes, Step, go, finished, wrong, deep, step}
+use Rattle.scan.specs.Step as automaton
 use Rattle.blocks.specs.declared.Blocks.{Blocks}
 use Rattle.blocks.specs.declared.Move.{Move}
 use Rattle.refusal.specs.Numbers.{tooDeep}
@@ -25,11 +26,11 @@ use Rattle.scan.proofs.Named.{wrong-named}
 use Rattle.scan.proofs.One.{named-means}
 use lib.ListN.{set}
 use Rattle.blocks.specs.declared.Due.{Due}
-use Rattle.blocks.specs.declared.Block.{Block}
-use Rattle.blocks.specs.declared.Move.the-variants.{Open, Close, Keep, Finish, Wrong, Deep}
+use Rattle.blocks.specs.declared.Due.the-variants.{Item, Key}
+use Rattle.blocks.specs.declared.Move.the-variants.{OpenList, OpenMap, OpenAttributes, Finish, Wrong, Deep}
 use Rattle.blocks.specs.Kept.{dueOf, blocksOf, blocksThen, noBlocks, openIn, byteOf}
 use Rattle.blocks.proofs.Stack.{blocks, then-open, then-close, then-keep}
-use Rattle.blocks.specs.Moves.{kindBy, named, stepOf, Apt, Moves}
+use Rattle.blocks.specs.Moves.{kindBy, around, wrongBy, stepOf, Apt, Moves}
 use Rattle.blocks.specs.Readings.{Reached, reached, Reader, Grows, Onward, onStep, onToken, readFor, readOn, readFrom, passOf, binary, notWhole}
 use Rattle.blocks.proofs.Firsts.{token-is, end-is}
 
@@ -103,8 +104,8 @@ module _ (s : List ℕ) where
       pub token-ends : (q ≡ 0 → ⊥) → (p < q) × (q ≤ length s)
       token-ends h = whole-token q (kindAt Binary s p) refl (sym (e ∙ end-is s p)) h .1
 
-      pub turn-whole : p < length s → (q ≡ 0 → ⊥) → (r : Move) → stepOf r (blocksOf b) ≡ step (dueOf (b .due)) (blocksOf b) (kindBy (getD s p 0))
-          → readOn binary s p b n ≡ onStep (readOn binary s) p q p b (n + 1) (stepOf r (blocksOf b))
+      pub turn-whole : p < length s → (q ≡ 0 → ⊥) → (r : Move) → stepOf r (dueOf (b .due)) (blocksOf b) ≡ step (dueOf (b .due)) (blocksOf b) (kindBy (getD s p 0))
+          → readOn binary s p b n ≡ onStep (readOn binary s) p q p b (n + 1) (stepOf r (dueOf (b .due)) (blocksOf b))
       unfolding onToken
       turn-whole l h r m =
           read-turn binary binary-grows s p b n l ∙ ap (onToken (readOn binary s) p b (n + 1)) (whole-token q (kindAt Binary s p) refl (sym (e ∙ end-is s p)) h .0)
@@ -124,39 +125,48 @@ module _ (s : List ℕ) where
 
 -- ---- each way of one reading of a whole token, from the place p with m blocks of the bytes ks open and d₀ due, to the place q
 
-module _ (s : List ℕ) (p m : ℕ) (d₀ : Due) (ks : List ℕ) (n q : ℕ) (e : q ≡ endOf (binaryFrom s p)) (l : p < length s) (h : q ≡ 0 → ⊥) (r : Move) (w : Moves (openIn m ks) m (step (dueOf d₀) (openIn m ks) (kindBy (getD s p 0))) r) where
-  by : (y : Move) → r ≡ y → readOn binary s p (blocks m d₀ ks) n ≡ onStep (readOn binary s) p q p (blocks m d₀ ks) (n + 1) (stepOf y (openIn m ks))
-  by y g = turn-whole s p (blocks m d₀ ks) n q e l h r (w .steps) ∙ ap (λ (z : Move). onStep (readOn binary s) p q p (blocks m d₀ ks) (n + 1) (stepOf z (openIn m ks))) g
+module _ (s : List ℕ) (p m : ℕ) (d₀ : Due) (ks : List ℕ) (n q : ℕ) (e : q ≡ endOf (binaryFrom s p)) (l : p < length s) (h : q ≡ 0 → ⊥) (r : Move) (w : Moves (openIn m ks) m (dueOf d₀) (step (dueOf d₀) (openIn m ks) (kindBy (getD s p 0))) r) where
+  by : (y : Move) → r ≡ y → readOn binary s p (blocks m d₀ ks) n ≡ onStep (readOn binary s) p q p (blocks m d₀ ks) (n + 1) (stepOf y (dueOf d₀) (openIn m ks))
+  by y g = turn-whole s p (blocks m d₀ ks) n q e l h r (w .steps) ∙ ap (λ (z : Move). onStep (readOn binary s) p q p (blocks m d₀ ks) (n + 1) (stepOf z (dueOf d₀) (openIn m ks))) g
 
-  pub opens : (x : Block) (d : Due) → r ≡ Open x d → (k : ℕ) → k ≡ byteOf (named x) → readOn binary s p (blocks m d₀ ks) n ≡ readOn binary s q (blocks (m + 1) d (set ks m k)) (n + 1)
+  -- the readings go on behind a step to the blocks K and the part d
+  on : (y : Move) → r ≡ y → (K : List automaton.Block) (d : Due) → stepOf y (dueOf d₀) (openIn m ks) ≡ go K (dueOf d) → (b : Blocks) → blocksThen (blocks m d₀ ks) K (dueOf d) ≡ b
+      → readOn binary s p (blocks m d₀ ks) n ≡ readOn binary s q b (n + 1)
   unfolding onStep
-  opens x d g k f = by (Open x d) g ∙ ap (λ (b : Blocks). readOn binary s q b (n + 1)) (then-open m ks d₀ d (named x) k f)
+  on y g K d f b t = by y g ∙ ap (onStep (readOn binary s) p q p (blocks m d₀ ks) (n + 1)) f ∙ ap (λ (b : Blocks). readOn binary s q b (n + 1)) t
 
-  pub room : (x : Block) (d : Due) → r ≡ Open x d → m < mostOpen
-  room x d g = rw g at (w .apt)
+  pub opens-list : r ≡ OpenList → readOn binary s p (blocks m d₀ ks) n ≡ readOn binary s q (blocks (m + 1) Item (set ks m 1)) (n + 1)
+  unfolding byteOf
+  opens-list g = on OpenList g (list ∷ openIn m ks) Item refl _ (then-open m ks d₀ Item list 1 refl)
 
-  pub closes : (d : Due) → r ≡ Close d → readOn binary s p (blocks m d₀ ks) n ≡ readOn binary s q (blocks (m - 1) d (set ks (m - 1) 0)) (n + 1)
-  unfolding onStep
-  closes d g =
-      let a : 0 < m = rw g at (w .apt) in
-      by (Close d) g ∙ ap (λ (b : Blocks). readOn binary s q b (n + 1)) (then-close m ks d₀ d (λ z. omega arith))
+  pub opens-map : r ≡ OpenMap → readOn binary s p (blocks m d₀ ks) n ≡ readOn binary s q (blocks (m + 1) Key (set ks m 2)) (n + 1)
+  unfolding byteOf
+  opens-map g = on OpenMap g (map ∷ openIn m ks) Key refl _ (then-open m ks d₀ Key map 2 refl)
 
-  pub some : (d : Due) → r ≡ Close d → 0 < m
-  some d g = rw g at (w .apt)
+  pub opens-attributes : r ≡ OpenAttributes → readOn binary s p (blocks m d₀ ks) n ≡ readOn binary s q (blocks (m + 1) Key (set ks m 3)) (n + 1)
+  unfolding byteOf
+  opens-attributes g = on OpenAttributes g (attributes ∷ openIn m ks) Key refl _ (then-open m ks d₀ Key attributes 3 refl)
 
-  pub keeps : (d : Due) → r ≡ Keep d → readOn binary s p (blocks m d₀ ks) n ≡ readOn binary s q (blocks m d ks) (n + 1)
-  unfolding onStep
-  keeps d g = by (Keep d) g ∙ ap (λ (b : Blocks). readOn binary s q b (n + 1)) (then-keep m ks d₀ d)
+  -- there is room for a block that opens, and one that ends is there
+  pub apt-as : (y : Move) → r ≡ y → Apt y m
+  apt-as y g = rw g at (w .apt)
+
+  pub closes : (y : Move) (d : Due) → r ≡ y → stepOf y (dueOf d₀) (openIn m ks) ≡ go (around (openIn m ks)) (dueOf d) → 0 < m → readOn binary s p (blocks m d₀ ks) n ≡ readOn binary s q (blocks (m - 1) d (set ks (m - 1) 0)) (n + 1)
+  closes y d g f a = on y g (around (openIn m ks)) d f _ (then-close m ks d₀ d (λ z. omega arith))
+
+  pub keeps : (y : Move) (d : Due) → r ≡ y → stepOf y (dueOf d₀) (openIn m ks) ≡ go (openIn m ks) (dueOf d) → readOn binary s p (blocks m d₀ ks) n ≡ readOn binary s q (blocks m d ks) (n + 1)
+  keeps y d g f = on y g (openIn m ks) d f _ (then-keep m ks d₀ d)
 
   pub finishes : r ≡ Finish → readOn binary s p (blocks m d₀ ks) n ≡ reached q (n + 1) noBlocks (gives q)
   unfolding onStep
   finishes g = by Finish g
 
-  pub refuses : (j : ℕ) → r ≡ Wrong j → readOn binary s p (blocks m d₀ ks) n ≡ reached p (n + 1) (blocks m d₀ ks) (refusalMeaning (namedBy j q))
+  pub refuses : (j : ℕ) → j ≡ wrongBy (dueOf d₀) → r ≡ Wrong → readOn binary s p (blocks m d₀ ks) n ≡ reached p (n + 1) (blocks m d₀ ks) (refusalMeaning (namedBy j q))
   unfolding onStep
-  refuses j g =
-      let v = wrong-named (dueOf d₀) (openIn m ks) (kindBy (getD s p 0)) j (sym (w .steps) ∙ ap (λ (z : Move). stepOf z (openIn m ks)) g) in
-      by (Wrong j) g ∙ ap (reached p (n + 1) (blocks m d₀ ks)) (sym (named-means j q (v .0) (v .1)))
+  refuses j f g =
+      let u : stepOf Wrong (dueOf d₀) (openIn m ks) ≡ wrong j = ap wrong (sym f) in
+      let v = wrong-named (dueOf d₀) (openIn m ks) (kindBy (getD s p 0)) j (sym (w .steps) ∙ ap (λ (z : Move). stepOf z (dueOf d₀) (openIn m ks)) g ∙ u) in
+      by Wrong g ∙ ap (onStep (readOn binary s) p q p (blocks m d₀ ks) (n + 1)) u ∙ ap (reached p (n + 1) (blocks m d₀ ks)) (sym (named-means j q (v .0) (v .1)))
 
   pub too-deep : r ≡ Deep → readOn binary s p (blocks m d₀ ks) n ≡ reached p (n + 1) (blocks m d₀ ks) (refused tooDeep (p ∷ []))
   unfolding onStep

@@ -6,9 +6,10 @@ ghost use lib.ListN.{length};
 ghost use Rattle.lexer.specs.Lexer.{kindAt};
 ghost use Rattle.refusal.specs.declared.Format.the-variants.{Binary};
 ghost use Rattle.scan.specs.Limit.{mostOpen};
-ghost use Rattle.scan.specs.Step.{after, onObject, onValue, onItem, onKey, step};
-ghost use Rattle.blocks.specs.Kept.{dueOf, openIn, noBlocks, kindsKnown, takes, blocksFit, byteOf};
-ghost use Rattle.blocks.specs.Moves.{kindBy, named, around, Moves, Begins, Equates};
+ghost use Rattle.scan.specs.Step.{after, step};
+ghost use Rattle.token.specs.declared.Kind.the-variants as kind;
+ghost use Rattle.blocks.specs.Kept.{dueOf, openIn, noBlocks, kindsKnown, takes, blocksFit};
+ghost use Rattle.blocks.specs.Moves.{kindBy, around, valueDue, wrongBy, Moves, Follows, Anywhere, Among, roomFor};
 ghost use Rattle.blocks.specs.Readings.{passOf, runMeaning, whatMeaning, notWhole};
 use refusal::Refusal;
 use token::Read;
@@ -44,25 +45,27 @@ pub struct Blocks {
     pub kinds: [u8; 128],
 }
 
-// A kind of block.
-pub enum Block {
-    List,
-    Map,
-    Attributes,
-}
-
 // What a token does to the open blocks.
 pub enum Move {
-    // It opens a block, in which this is due.
-    Open(Block, Due),
+    // It opens a block of this kind.
+    OpenList,
+    OpenMap,
+    OpenAttributes,
     // It ends the innermost block, and this is due.
-    Close(Due),
+    CloseItem,
+    CloseKey,
+    CloseObject,
+    // The blocks stay open, and the same is due.
+    Stay,
     // The blocks stay open, and this is due.
-    Keep(Due),
+    ToItem,
+    ToKey,
+    ToEquals,
+    ToValue,
     // The record is whole.
     Finish,
-    // It is wrong for its place, refused by this number.
-    Wrong(usize),
+    // It is wrong for its place.
+    Wrong,
     // A block would be one too many.
     Deep,
 }
@@ -166,163 +169,244 @@ pub fn blocks_fit(blocks: Blocks, passed: usize) -> bool
     due_fits(&kinds, depth, due)
 }
 
-// The byte of a kind of block.
-fn byte_of(block: Block) -> u8
-    ensures { λ r. ⌜ r ≡ byteOf (named block) ⌝ }
-{
-    match block {
-        Block::List => LIST,
-        Block::Map => MAP,
-        Block::Attributes => ATTRIBUTES,
-    }
-}
-
 // A whole value in the open blocks.
 fn whole(kinds: &[u8; 128], depth: usize) -> Move
     requires { ⌜ depth ≤ mostOpen ⌝ }
-    ensures { λ r. ⌜ Moves (openIn depth (now (kinds .entry))) depth (after (openIn depth (now (kinds .entry)))) r ⌝ }
+    ensures { λ r. ⌜ Follows (openIn depth (now (kinds .entry))) depth (after (openIn depth (now (kinds .entry)))) r ⌝ }
 {
     if depth == 0 {
         return Move::Finish;
     }
     if kinds[depth - 1] == LIST {
-        return Move::Keep(Due::Item);
+        return Move::ToItem;
     }
-    Move::Keep(Due::Key)
+    Move::ToKey
 }
 
 // A list or a map ends, and is a whole value in the blocks around it.
 fn ended(kinds: &[u8; 128], depth: usize) -> Move
     requires { ⌜ (0 < depth) × (depth ≤ mostOpen) ⌝ }
-    ensures { λ r. ⌜ Moves (openIn depth (now (kinds .entry))) depth (after (around (openIn depth (now (kinds .entry))))) r ⌝ }
+    ensures { λ r. ⌜ Follows (openIn depth (now (kinds .entry))) depth (after (around (openIn depth (now (kinds .entry))))) r ⌝ }
 {
     let outer = depth - 1;
     if outer == 0 {
         return Move::Finish;
     }
     if kinds[outer - 1] == LIST {
-        return Move::Close(Due::Item);
+        return Move::CloseItem;
     }
-    Move::Close(Due::Key)
+    Move::CloseKey
 }
 
-// A block is opened in the open blocks, unless as many as may be are open.
-fn begun(depth: usize, block: Block, due: Due) -> Move
-    requires { ⌜ depth ≤ mostOpen ⌝ }
-    ensures { λ r. ⌜ Begins depth block due r ⌝ }
+// Whether a value is due, with attributes or without.
+fn value_due(due: Due) -> bool
+    ensures { λ r. ⌜ r ≡ valueDue (dueOf due) ⌝ }
+{
+    match due {
+        Due::Value => true,
+        Due::Object => true,
+        Due::Item => true,
+        Due::Key => false,
+        Due::Equals => false,
+    }
+}
+
+// `;` stands between the parts of a block.
+fn on_semicolon(due: Due) -> Move
+    ensures { λ r. ⌜ Anywhere due kind.Semicolon r ⌝ }
+{
+    match due {
+        Due::Value => Move::Wrong,
+        Due::Object => Move::Wrong,
+        Due::Item => Move::Stay,
+        Due::Key => Move::Stay,
+        Due::Equals => Move::Wrong,
+    }
+}
+
+// `=` stands behind a key.
+fn on_equals(due: Due) -> Move
+    ensures { λ r. ⌜ Anywhere due kind.Equals r ⌝ }
+{
+    match due {
+        Due::Value => Move::Wrong,
+        Due::Object => Move::Wrong,
+        Due::Item => Move::Wrong,
+        Due::Key => Move::Wrong,
+        Due::Equals => Move::ToValue,
+    }
+}
+
+// A block is opened by this move, unless as many as may be are open.
+fn begun(depth: usize, opening: Move) -> Move
+    ensures { λ r. ⌜ r ≡ roomFor depth opening ⌝ }
 {
     if depth == MOST_OPEN {
         return Move::Deep;
     }
-    Move::Open(block, due)
+    opening
 }
 
-// Where a value with no attributes is due.
-fn on_object(kinds: &[u8; 128], depth: usize, b: u8) -> Move
+// `[` begins a value.
+fn on_list(depth: usize, due: Due) -> Move
     requires { ⌜ depth ≤ mostOpen ⌝ }
-    ensures { λ r. ⌜ Moves (openIn depth (now (kinds .entry))) depth (onObject (openIn depth (now (kinds .entry))) (kindBy b)) r ⌝ }
+    ensures { λ r. ⌜ Among depth due kind.OpenList r ⌝ }
 {
-    match b {
-        b'[' => begun(depth, Block::List, Due::Item),
-        b'{' => begun(depth, Block::Map, Due::Key),
-        b']' => Move::Wrong(refusal::NOT_VALUE),
-        b'}' => Move::Wrong(refusal::NOT_VALUE),
-        b'<' => Move::Wrong(refusal::NOT_VALUE),
-        b'>' => Move::Wrong(refusal::NOT_VALUE),
-        b'=' => Move::Wrong(refusal::NOT_VALUE),
-        b';' => Move::Wrong(refusal::NOT_VALUE),
-        _ => whole(kinds, depth),
+    if !value_due(due) {
+        return Move::Wrong;
     }
+    begun(depth, Move::OpenList)
 }
 
-// Where a value is due.
-fn on_value(kinds: &[u8; 128], depth: usize, b: u8) -> Move
+// `{` begins a value.
+fn on_map(depth: usize, due: Due) -> Move
     requires { ⌜ depth ≤ mostOpen ⌝ }
-    ensures { λ r. ⌜ Moves (openIn depth (now (kinds .entry))) depth (onValue (openIn depth (now (kinds .entry))) (kindBy b)) r ⌝ }
+    ensures { λ r. ⌜ Among depth due kind.OpenMap r ⌝ }
 {
-    if b == b'<' {
-        return begun(depth, Block::Attributes, Due::Key);
+    if !value_due(due) {
+        return Move::Wrong;
     }
-    on_object(kinds, depth, b)
+    begun(depth, Move::OpenMap)
 }
 
-// In a list.
-fn on_item(kinds: &[u8; 128], depth: usize, b: u8) -> Move
+// `<` begins a value whose attributes are not passed.
+fn on_attributes(depth: usize, due: Due) -> Move
     requires { ⌜ depth ≤ mostOpen ⌝ }
-    ensures { λ r. ⌜ Moves (openIn depth (now (kinds .entry))) depth (onItem (openIn depth (now (kinds .entry))) (kindBy b)) r ⌝ }
-{
-    if b == b']' {
-        if depth == 0 {
-            return Move::Wrong(refusal::NOT_VALUE);
-        }
-        if kinds[depth - 1] == LIST {
-            return ended(kinds, depth);
-        }
-        return Move::Wrong(refusal::NOT_VALUE);
-    }
-    if b == b';' {
-        return Move::Keep(Due::Item);
-    }
-    on_value(kinds, depth, b)
-}
-
-// In a map or an attribute block.
-fn on_key(kinds: &[u8; 128], depth: usize, b: u8) -> Move
-    requires { ⌜ depth ≤ mostOpen ⌝ }
-    ensures { λ r. ⌜ Moves (openIn depth (now (kinds .entry))) depth (onKey (openIn depth (now (kinds .entry))) (kindBy b)) r ⌝ }
-{
-    if b == 0x01 {
-        return Move::Keep(Due::Equals);
-    }
-    if b == b';' {
-        return Move::Keep(Due::Key);
-    }
-    if b == b'}' {
-        if depth == 0 {
-            return Move::Wrong(refusal::NOT_KEY);
-        }
-        if kinds[depth - 1] == MAP {
-            return ended(kinds, depth);
-        }
-        return Move::Wrong(refusal::NOT_KEY);
-    }
-    if b == b'>' {
-        if depth == 0 {
-            return Move::Wrong(refusal::NOT_KEY);
-        }
-        let k = kinds[depth - 1];
-        if k == LIST {
-            return Move::Wrong(refusal::NOT_KEY);
-        }
-        if k == MAP {
-            return Move::Wrong(refusal::NOT_KEY);
-        }
-        return Move::Close(Due::Object);
-    }
-    Move::Wrong(refusal::NOT_KEY)
-}
-
-// Behind a key.
-fn on_equals(b: u8) -> Move
-    ensures { λ r. ⌜ Equates b r ⌝ }
-{
-    if b == b'=' {
-        return Move::Keep(Due::Value);
-    }
-    Move::Wrong(refusal::NOT_EQUALS)
-}
-
-// What the token whose first byte is `b` does to the open blocks.
-fn decide(kinds: &[u8; 128], depth: usize, due: Due, b: u8) -> Move
-    requires { ⌜ depth ≤ mostOpen ⌝ }
-    ensures { λ r. ⌜ Moves (openIn depth (now (kinds .entry))) depth (step (dueOf due) (openIn depth (now (kinds .entry))) (kindBy b)) r ⌝ }
+    ensures { λ r. ⌜ Among depth due kind.OpenAttributes r ⌝ }
 {
     match due {
-        Due::Value => on_value(kinds, depth, b),
-        Due::Object => on_object(kinds, depth, b),
-        Due::Item => on_item(kinds, depth, b),
-        Due::Key => on_key(kinds, depth, b),
-        Due::Equals => on_equals(b),
+        Due::Value => begun(depth, Move::OpenAttributes),
+        Due::Object => Move::Wrong,
+        Due::Item => begun(depth, Move::OpenAttributes),
+        Due::Key => Move::Wrong,
+        Due::Equals => Move::Wrong,
+    }
+}
+
+// `]` ends a list.
+fn on_list_end(kinds: &[u8; 128], depth: usize, due: Due) -> Move
+    requires { ⌜ depth ≤ mostOpen ⌝ }
+    ensures { λ r. ⌜ Moves (openIn depth (now (kinds .entry))) depth (dueOf due) (step (dueOf due) (openIn depth (now (kinds .entry))) kind.CloseList) r ⌝ }
+{
+    match due {
+        Due::Value => Move::Wrong,
+        Due::Object => Move::Wrong,
+        Due::Item => {
+            if depth == 0 {
+                return Move::Wrong;
+            }
+            if kinds[depth - 1] == LIST {
+                return ended(kinds, depth);
+            }
+            Move::Wrong
+        }
+        Due::Key => Move::Wrong,
+        Due::Equals => Move::Wrong,
+    }
+}
+
+// `}` ends a map.
+fn on_map_end(kinds: &[u8; 128], depth: usize, due: Due) -> Move
+    requires { ⌜ depth ≤ mostOpen ⌝ }
+    ensures { λ r. ⌜ Moves (openIn depth (now (kinds .entry))) depth (dueOf due) (step (dueOf due) (openIn depth (now (kinds .entry))) kind.CloseMap) r ⌝ }
+{
+    match due {
+        Due::Value => Move::Wrong,
+        Due::Object => Move::Wrong,
+        Due::Item => Move::Wrong,
+        Due::Key => {
+            if depth == 0 {
+                return Move::Wrong;
+            }
+            if kinds[depth - 1] == MAP {
+                return ended(kinds, depth);
+            }
+            Move::Wrong
+        }
+        Due::Equals => Move::Wrong,
+    }
+}
+
+// `>` ends an attribute block, and the value behind it is due.
+fn on_attributes_end(kinds: &[u8; 128], depth: usize, due: Due) -> Move
+    requires { ⌜ depth ≤ mostOpen ⌝ }
+    ensures { λ r. ⌜ Moves (openIn depth (now (kinds .entry))) depth (dueOf due) (step (dueOf due) (openIn depth (now (kinds .entry))) kind.CloseAttributes) r ⌝ }
+{
+    match due {
+        Due::Value => Move::Wrong,
+        Due::Object => Move::Wrong,
+        Due::Item => Move::Wrong,
+        Due::Key => {
+            if depth == 0 {
+                return Move::Wrong;
+            }
+            let k = kinds[depth - 1];
+            if k == LIST {
+                return Move::Wrong;
+            }
+            if k == MAP {
+                return Move::Wrong;
+            }
+            Move::CloseObject
+        }
+        Due::Equals => Move::Wrong,
+    }
+}
+
+// A scalar that is no string is a whole value.
+fn on_scalar(kinds: &[u8; 128], depth: usize, due: Due) -> Move
+    requires { ⌜ depth ≤ mostOpen ⌝ }
+    ensures { λ r. ⌜ Moves (openIn depth (now (kinds .entry))) depth (dueOf due) (step (dueOf due) (openIn depth (now (kinds .entry))) kind.Scalar) r ⌝ }
+{
+    if !value_due(due) {
+        return Move::Wrong;
+    }
+    whole(kinds, depth)
+}
+
+// A string is a whole value or a key.
+fn on_string(kinds: &[u8; 128], depth: usize, due: Due) -> Move
+    requires { ⌜ depth ≤ mostOpen ⌝ }
+    ensures { λ r. ⌜ Moves (openIn depth (now (kinds .entry))) depth (dueOf due) (step (dueOf due) (openIn depth (now (kinds .entry))) kind.Text) r ⌝ }
+{
+    match due {
+        Due::Value => whole(kinds, depth),
+        Due::Object => whole(kinds, depth),
+        Due::Item => whole(kinds, depth),
+        Due::Key => Move::ToEquals,
+        Due::Equals => Move::Wrong,
+    }
+}
+
+// What the token whose first byte is `b` does to the open blocks, by the byte first: each fits where few parts are due.
+fn decide(kinds: &[u8; 128], depth: usize, due: Due, b: u8) -> Move
+    requires { ⌜ depth ≤ mostOpen ⌝ }
+    ensures { λ r. ⌜ Moves (openIn depth (now (kinds .entry))) depth (dueOf due) (step (dueOf due) (openIn depth (now (kinds .entry))) (kindBy b)) r ⌝ }
+{
+    match b {
+        b';' => on_semicolon(due),
+        b'=' => on_equals(due),
+        b'[' => on_list(depth, due),
+        b']' => on_list_end(kinds, depth, due),
+        b'{' => on_map(depth, due),
+        b'}' => on_map_end(kinds, depth, due),
+        b'<' => on_attributes(depth, due),
+        b'>' => on_attributes_end(kinds, depth, due),
+        0x01 => on_string(kinds, depth, due),
+        _ => on_scalar(kinds, depth, due),
+    }
+}
+
+// The number of the refusal of a token that is wrong for its place.
+fn wrong_number(due: Due) -> usize
+    ensures { λ r. ⌜ r ≡ wrongBy (dueOf due) ⌝ }
+{
+    match due {
+        Due::Value => refusal::NOT_VALUE,
+        Due::Object => refusal::NOT_VALUE,
+        Due::Item => refusal::NOT_VALUE,
+        Due::Key => refusal::NOT_KEY,
+        Due::Equals => refusal::NOT_EQUALS,
     }
 }
 
@@ -374,20 +458,59 @@ pub fn pass(blocks: Blocks, input: &[u8], from: usize) -> Run
         }
         let b = input[place];
         match decide(&kinds, depth, due, b) {
-            Move::Open(block, next) => {
-                kinds[depth] = byte_of(block);
+            Move::OpenList => {
+                kinds[depth] = LIST;
                 depth += 1;
-                due = next;
+                due = Due::Item;
                 place = end;
             }
-            Move::Close(next) => {
+            Move::OpenMap => {
+                kinds[depth] = MAP;
+                depth += 1;
+                due = Due::Key;
+                place = end;
+            }
+            Move::OpenAttributes => {
+                kinds[depth] = ATTRIBUTES;
+                depth += 1;
+                due = Due::Key;
+                place = end;
+            }
+            Move::CloseItem => {
                 depth -= 1;
                 kinds[depth] = 0;
-                due = next;
+                due = Due::Item;
                 place = end;
             }
-            Move::Keep(next) => {
-                due = next;
+            Move::CloseKey => {
+                depth -= 1;
+                kinds[depth] = 0;
+                due = Due::Key;
+                place = end;
+            }
+            Move::CloseObject => {
+                depth -= 1;
+                kinds[depth] = 0;
+                due = Due::Object;
+                place = end;
+            }
+            Move::Stay => {
+                place = end;
+            }
+            Move::ToItem => {
+                due = Due::Item;
+                place = end;
+            }
+            Move::ToKey => {
+                due = Due::Key;
+                place = end;
+            }
+            Move::ToEquals => {
+                due = Due::Equals;
+                place = end;
+            }
+            Move::ToValue => {
+                due = Due::Value;
                 place = end;
             }
             Move::Finish => {
@@ -399,7 +522,8 @@ pub fn pass(blocks: Blocks, input: &[u8], from: usize) -> Run
                     blocks: none,
                 };
             }
-            Move::Wrong(number) => {
+            Move::Wrong => {
+                let number = wrong_number(due);
                 let refusal = refusal::refusal_of(number, end);
                 return Run {
                     place,

@@ -37,7 +37,7 @@ pub fn skip(input: &[u8], at: usize, format: Format) -> usize
 {
     match format {
         Format::Binary => at,
-        Format::Text => blanks::skip_ignored(input, at),
+        Format::Text => blanks::first_place(input, at),
     }
 }
 

@@ -7,11 +7,14 @@ use native.Mathlib.Numerals.{add-one}
 use native.Mathlib.Omega.{arith}
 use native.Mathlib.Nat.{eq-or-lt-of-le}
 use mathlib.Core.Logic.{_⊎_, inl, inr, ⊎-elim}
-use borrow.Author.Tests.{lt-ltb, le-ltb, ltb-false, eq-eqb, ne-eqb}
+use borrow.Author.Tests.{lt-ltb, le-ltb, ltb-false, eq-eqb, ne-eqb, not-true, not-false}
 use lib.Dec.{ltb, eqb}
 use lib.ListN.{length, getD, drop, drop-of-length-le, length-drop}
 use lib.Seq.{drop-cons}
 use Rattle.refusal.specs.Paper.{pick}
+use Rattle.refusal.proofs.Cases.{either}
+use Rattle.search.specs.First.{firstFrom, isOther}
+use Rattle.search.proofs.Laws.{first-found, same-at-first, from-ge, from-le}
 use Rattle.number.specs.Bytes.{isDigit, isMinus, isSign, isPoint, isExponent, isPointed, isText, isUnsigned, starts, any}
 use Rattle.number.specs.Grammar.{past, afterSign, Left, none, left, onward, spent, digitsLeft, pointLeft, mantissaLeft, exponentLeft, doubleLeft, isDouble}
 use Rattle.number.specs.Places.{Leaves, leftAt, MayLeave, Whole}
@@ -57,6 +60,24 @@ module _ (f : ℕ → Bool) (s : List ℕ) (p : ℕ) where
 
     pub none-run : r ≤ p → starts f (drop p s) ≡ false
     none-run h = sym run-some ∙ le-ltb p r h
+
+-- a run of digits ends at the first byte that is none
+module _ (s : List ℕ) (p : ℕ) where
+  at-first : length s ≤ firstFrom isOther s p ⊎ firstFrom isOther s p < length s → drop (firstFrom isOther s p) s ≡ past isDigit (drop (firstFrom isOther s p) s)
+  unfolding isOther isDigit
+  at-first (inl h) = run-out isDigit s (firstFrom isOther s p) h
+  at-first (inr h) = run-stop isDigit s (firstFrom isOther s p) h (not-true _ (first-found isOther s p h))
+
+  past-first : past isDigit (drop p s) ≡ past isDigit (drop (firstFrom isOther s p) s)
+  unfolding isOther isDigit
+  past-first = same-at-first isOther s (λ q. past isDigit (drop q s)) (λ q h e. sym (run-more isDigit s q h (not-false _ e))) p
+
+  pub run-first : (r : ℕ) → r ≡ firstFrom isOther s p → Leaves s p (past isDigit (drop p s)) r
+  run-first r e = record {
+    rest = ap (λ (q : ℕ). drop q s) e ∙ at-first (either (length s) (firstFrom isOther s p)) ∙ sym past-first;
+    low = omega (arith, from-ge isOther s p);
+    high = omega (arith, from-le isOther s p);
+  }
 
 -- ---- an optional sign
 

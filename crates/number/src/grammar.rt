@@ -64,14 +64,7 @@ pub(crate) fn is_text(b: u8) -> bool
 pub(crate) fn digits_end(s: &[u8], at: usize) -> usize
     ensures { λ r. ⌜ Leaves (now (s .entry)) at (past isDigit (drop at (now (s .entry)))) r ⌝ }
 {
-    let mut p = at;
-    while p < s.len() {
-        if !is_digit(s[p]) {
-            return p;
-        }
-        p += 1;
-    }
-    p
+    search::find_other(s, at)
 }
 
 // The place behind the number text from `at` on.

@@ -98,7 +98,7 @@ module _ (s : List ℕ) (at : ℕ) where
       go false e = rw (e, le-leb _ _ h)
 
   module _ (h : at < length s) where
-    within : quotedAt s at ≡ closedAs s at (closing (at + 1) (drop (at + 1) s))
+    pub within : quotedAt s at ≡ closedAs s at (closing (at + 1) (drop (at + 1) s))
     unfolding quotedAt
     within = rw (le-ltb (length s) at (omega arith), lt-leb _ _ h)
 
@@ -162,15 +162,6 @@ module _ (s : List ℕ) (at : ℕ) where
 
         way-judged : (x : End) → walk 0 (drop (at + 1) s) .end ≡ x → quotedAt s at ≡ judged x at (Escaped (at + 1) (q - (at + 1))) (q + 1)
         way-judged x f = within ∙ ap (closedAs s at) (same-closing ∙ closes) ∙ rw (f, escaped)
-
-        pub way-failed : countOf 0 (walk 0 (drop p s)) < 2 → 0 ≡ endOf (quotedAt s at)
-        unfolding countOf
-        way-failed f = go (walk 0 (drop p s) .end) refl f
-          where
-            go : (x : End) → walk 0 (drop p s) .end ≡ x → countBy x (0 + length (walk 0 (drop p s) .bytes)) < 2 → 0 ≡ endOf (quotedAt s at)
-            go closed g i = absurd (omega arith)
-            go badHex g i = sym (ap endOf (way-judged badHex (same-end ∙ g)))
-            go cut g i = sym (ap endOf (way-judged cut (same-end ∙ g)))
 
         pub way-bad : walk 0 (drop (at + 1) s) .end ≡ badHex → quotedAt s at ≡ refused badHexEscape (at ∷ [])
         way-bad f = way-judged badHex f

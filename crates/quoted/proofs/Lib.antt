@@ -5,3 +5,4 @@ pub mod Places
 pub mod Plain
 pub mod Writes
 pub mod Answers
+mod Whole

@@ -9,7 +9,7 @@ use lib.ListN.{length, getD, drop, take, drop-of-length-le, length-drop}
 use lib.Seq.{drop-cons, drop-drop, take-all}
 use Rattle.quoted.specs.Pieces.{End, closed, badHex, cut, Piece, byte, ends, escapeOf, pieceOf, Walk, giving, onward, walk}
 use Rattle.quoted.specs.Quoted.{Closing, closesAt, unclosed, closing, hidden}
-use Rattle.quoted.specs.Inside.{plain, closingBy, pieceBy, Sized, countBy, countOf}
+use Rattle.quoted.specs.Inside.{closingBy, pieceBy, Sized, countBy, countOf}
 use Rattle.quoted.proofs.Digits.{by-cut, by-bad, by-whole}
 
 pub drop-more : (s : List ℕ) (p : ℕ) → p < length s → drop p s ≡ getD s p 0 ∷ drop (p + 1) s
@@ -57,10 +57,6 @@ module _ (s : List ℕ) (p : ℕ) where
   part-from : take (length s - p) (drop p s) ≡ drop p s
   part-from = take-all (length s - p) (drop p s) (rw length-drop (omega arith))
 
-  pub plain-out : length s ≤ p → p ≡ p + plain (drop p s)
-  unfolding plain
-  plain-out h = rw (drop-of-length-le s h) (omega arith)
-
   pub close-out : length s ≤ p → unclosed ≡ closing p (drop p s)
   unfolding closing
   close-out h = rw (drop-of-length-le s h)
@@ -70,18 +66,6 @@ module _ (s : List ℕ) (p : ℕ) where
   walk-out h = rw (drop-of-length-le s h)
 
   module _ (h : p < length s) where
-    pub plain-quote : getD s p 0 ≡ 34 → p ≡ p + plain (drop p s)
-    unfolding plain
-    plain-quote e = rw (drop-more s p h, e) (omega arith)
-
-    pub plain-backslash : getD s p 0 ≡ 92 → p ≡ p + plain (drop p s)
-    unfolding plain
-    plain-backslash e = rw (drop-more s p h, e) (omega arith)
-
-    pub plain-more : (getD s p 0 ≡ 34 → ⊥) → (getD s p 0 ≡ 92 → ⊥) → p + 1 + plain (drop (p + 1) s) ≡ p + plain (drop p s)
-    unfolding plain
-    plain-more m n = rw (drop-more s p h, ne-eqb _ _ m, ne-eqb _ _ n) (omega arith)
-
     pub close-quote : getD s p 0 ≡ 34 → closesAt p ≡ closing p (drop p s)
     unfolding closing
     close-quote e = rw (drop-more s p h, e)

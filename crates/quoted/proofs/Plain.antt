@@ -1,7 +1,7 @@
 -- What the bytes before the first quote or backslash leave as it was: the closing quote, the end of the pieces, and their bytes but
 -- for themselves.
 use mathlib.Core.Path.{_≡_, refl, sym, ap, _∙_}
-use mathlib.Core.Bool.{Bool, true, false}
+use mathlib.Core.Bool.{Bool, true, false, cond, _||_}
 use mathlib.Core.List.{List, [], _∷_, _++_}
 use Prim.Native.Nat.{ℕ, zero, suc, _+_, _-_, _≤_, _<_}
 use native.Mathlib.Nat.{le-of-suc-le-suc, not-suc-le-zero, add-zero}
@@ -9,6 +9,8 @@ use native.Mathlib.Omega.{arith}
 use borrow.Author.Tests.{eqb-true, eqb-false, eq-eqb}
 use lib.Dec.{eqb}
 use lib.ListN.{length, getD, drop, take}
+use Rattle.refusal.specs.Paper.{pick}
+use Rattle.search.specs.First.{first, firstFrom, isQuote}
 use Rattle.quoted.specs.Pieces.{Walk, giving, walk}
 use Rattle.quoted.specs.Quoted.{closing, stands}
 use Rattle.quoted.specs.Inside.{plain}
@@ -27,6 +29,22 @@ plain-within (b ∷ l) = go (plain-within l) (eqb b 34) (eqb b 92) refl refl
     go i true u e f = rw e (omega arith)
     go i false true e f = rw (e, f) (omega arith)
     go i false false e f = rw (e, f) (omega arith)
+
+-- the first quote or backslash stands behind them
+first-plain : (p : ℕ) (l : List ℕ) → first isQuote p l ≡ p + plain l
+unfolding first isQuote plain
+first-plain p [] = sym (add-zero p)
+first-plain p (b ∷ l) = go (first-plain (p + 1) l) (eqb b 34) (eqb b 92)
+  where
+    go : first isQuote (p + 1) l ≡ p + 1 + plain l → (t u : Bool)
+        → cond (t || u) p (first isQuote (p + 1) l) ≡ p + pick t 0 (pick u 0 (suc (plain l)))
+    go i true u = sym (add-zero p)
+    go i false true = sym (add-zero p)
+    go i false false = omega arith
+
+pub plain-first : (s : List ℕ) (p : ℕ) → firstFrom isQuote s p ≡ p + plain (drop p s)
+unfolding firstFrom
+plain-first s p = first-plain p (drop p s)
 
 pub plain-closing : (p : ℕ) (l : List ℕ) → closing p l ≡ closing (p + plain l) (drop (plain l) l)
 unfolding plain closing

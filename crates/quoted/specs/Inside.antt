@@ -3,11 +3,11 @@
 use Prim.Native.Nat.{ℕ, zero, suc, _+_, _/_, _%_, _≤_, _<_}
 use mathlib.Core.List.{List, [], _∷_}
 use lib.Dec.{eqb}
-use lib.ListN.{length}
+use lib.ListN.{length, drop}
 use Rattle.refusal.specs.Paper.{pick}
 use Rattle.quoted.specs.Bytes.{quote, backslash}
-use Rattle.quoted.specs.Pieces.{End, closed, badHex, cut, Piece, byte, ends, Walk}
-use Rattle.quoted.specs.Quoted.{Closing, closesAt, unclosed}
+use Rattle.quoted.specs.Pieces.{End, closed, badHex, cut, Piece, byte, ends, Walk, walk}
+use Rattle.quoted.specs.Quoted.{Closing, closesAt, unclosed, closing}
 
 -- how many bytes at the front of a list are neither quote nor backslash
 unfoldable pub plain : List ℕ → ℕ
@@ -18,6 +18,17 @@ plain (b ∷ l) = pick (eqb b quote) 0 (pick (eqb b backslash) 0 (suc (plain l))
 abbrev pub closingBy : ℕ → Closing
 closingBy zero = unclosed
 closingBy (suc q) = closesAt (suc q)
+
+-- the place after the closing quote, or 0 where there is none or an escape before it is bad or cut
+abbrev pub wholeBy : End → Closing → ℕ
+wholeBy closed (closesAt q) = q + 1
+wholeBy closed unclosed = 0
+wholeBy badHex c = 0
+wholeBy cut c = 0
+
+-- the same, of the pieces from a place on
+unfoldable pub wholeFrom : List ℕ → ℕ → ℕ
+wholeFrom s p = wholeBy (walk 0 (drop p s) .end) (closing p (drop p s))
 
 -- an escape: 0 where the input is cut, 1 where it is bad, else 256 times the input bytes that it takes, and its byte
 unfoldable pub pieceBy : ℕ → Piece

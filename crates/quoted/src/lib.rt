@@ -1,6 +1,6 @@
 // Which quoted string has its opening quote at a place, and what bytes has it once its escapes are undone?
-// specs/Quoted.antt decides both, specs/Pieces.antt says what an escape is. Strings without a backslash are walked once; the
-// private functions answer in one number, which specs/Inside.antt reads.
+// specs/Quoted.antt decides both, specs/Pieces.antt says what an escape is. `quoted_end` walks a string once, and by crate search over the
+// bytes between escapes; the private functions answer in one number, which specs/Inside.antt reads.
 ghost use mathlib.Core.Path.{_≡_};
 ghost use Prim.Native.Nat.{_+_, _<_, _≤_};
 ghost use lib.ListN.{length, drop};
@@ -10,7 +10,7 @@ ghost use Rattle.quoted.specs.Bytes.{hexDigit, octalDigit};
 ghost use Rattle.quoted.specs.Pieces.{hexOf, octalOf, escapeOf, walk};
 ghost use Rattle.token.specs.Ends.{endOf};
 ghost use Rattle.quoted.specs.Quoted.{closing, quotedAt, quotedStringAt};
-ghost use Rattle.quoted.specs.Inside.{plain, closingBy, pieceBy, Sized, countOf, overlay};
+ghost use Rattle.quoted.specs.Inside.{plain, closingBy, wholeFrom, pieceBy, Sized, countOf, overlay};
 use refusal::Refusal;
 use token::Read;
 use token::Token;
@@ -141,18 +141,7 @@ fn escape(t: &[u8]) -> usize
 fn plain_end(input: &[u8], from: usize) -> usize
     ensures { λ r. ⌜ r ≡ from + plain (drop from (now (input .entry))) ⌝ }
 {
-    let mut p = from;
-    while p < input.len() {
-        let b = input[p];
-        if b == b'"' {
-            return p;
-        }
-        if b == b'\\' {
-            return p;
-        }
-        p += 1;
-    }
-    p
+    search::find_quote(input, from)
 }
 
 // The place of the closing quote, from `from` on, or 0. A backslash hides one byte.
@@ -286,6 +275,25 @@ pub fn quoted_token(input: &[u8], at: usize) -> Read
     }
 }
 
+// The place after the closing quote of the pieces from `from` on, or 0 where they are not whole. They are walked once.
+fn whole_end(input: &[u8], from: usize) -> usize
+    ensures { λ r. ⌜ r ≡ wholeFrom (now (input .entry)) from ⌝ }
+{
+    let mut p = search::find_quote(input, from);
+    while p < input.len() {
+        if input[p] == b'"' {
+            return p + 1;
+        }
+        let t = p + 1;
+        let e = escape(&input[t..]);
+        if e <= BAD {
+            return 0;
+        }
+        p = search::find_quote(input, p + e / 256);
+    }
+    0
+}
+
 // The place after the quoted string whose opening quote stands at `at`, or 0 where `quoted_token` gives no token.
 pub fn quoted_end(input: &[u8], at: usize) -> usize
     ensures { λ r. ⌜ r ≡ endOf (quotedAt (now (input .entry)) at) ⌝ }
@@ -293,21 +301,7 @@ pub fn quoted_end(input: &[u8], at: usize) -> usize
     if input.len() <= at {
         return 0;
     }
-    let p = plain_end(input, at + 1);
-    if input.len() <= p {
-        return 0;
-    }
-    if input[p] == b'"' {
-        return p + 1;
-    }
-    let q = find_close(input, p);
-    if q == 0 {
-        return 0;
-    }
-    if measure(input, p) < WHOLE {
-        return 0;
-    }
-    q + 1
+    whole_end(input, at + 1)
 }
 
 // Writes the bytes of the quoted string whose opening quote stands at `at`, with escapes undone, to the front of `out`.

@@ -75,3 +75,7 @@ blockOf false = map
 -- the rest of a map or an attribute block
 abbrev pub Pairs : Format → List ℕ → ℕ → ℕ → Bool → Paper ℕ → Type 0
 Pairs f s at depth b r = Part f s (suc at) (λ K. suc (length K) ≡ depth) (λ K. walk f s at (blockOf b ∷ K) key) (closed (blockOf b)) r
+
+-- from the one place to the other there are whole pairs: in a block of pairs the run goes on behind them
+abbrev pub Along : Format → List ℕ → ℕ → ℕ → Type 0
+Along f s at q = (at ≤ q) × ((b : Bool) (K : List Block) → walk f s at (blockOf b ∷ K) key ≡ walk f s q (blockOf b ∷ K) key)

@@ -1,15 +1,18 @@
 // Where does the next value end, and is there a whole one at all? The automaton of specs/Step and specs/Walk decides (`scanOf`).
-// Each token that is passed is read once, and no value is made of it; the one at which a scan stops is read again, to say why. The private
-// functions answer one number, the end of a part, or 0 where the part is not whole; then `no` and `place` say why: a refusal's number and
-// its place, or the number 0 where the bytes ended. Where the part is whole they say nothing.
+// Each token that is passed is read once, or twice where it is a key before a block, and no value is made of it; the one at which a scan
+// stops is read again, to say why. The private functions answer one number, the end of a part, or 0 where the part is not whole; then `no`
+// and `place` say why: a refusal's number and its place, or the number 0 where the bytes ended. Where the part is whole they say nothing.
 ghost use mathlib.Core.Path.{_≡_};
+ghost use mathlib.Core.Bool.{true, false};
+ghost use mathlib.Core.Logic.{_⊎_};
 ghost use Prim.Native.Nat.{_≤_, _<_};
 ghost use lib.ListN.{length};
+ghost use Rattle.refusal.specs.declared.Format.the-variants.{Binary};
 ghost use Rattle.lexer.specs.Lexer.{kindAt, skipOf};
 ghost use Rattle.scan.specs.Limit.{mostOpen};
 ghost use Rattle.scan.specs.Walk.{scanOf};
 ghost use Rattle.scan.specs.Meaning.{scanMeaning};
-ghost use Rattle.scan.specs.Post.{answerOf, whyOf, Tree, Begun, Attributed, Pair, Items, Pairs};
+ghost use Rattle.scan.specs.Post.{answerOf, whyOf, Tree, Begun, Pair, Items, Along, Pairs};
 use refusal::Format;
 use refusal::Refusal;
 use token::Read;
@@ -33,7 +36,8 @@ pub fn scan_value(input: &[u8], format: Format) -> Scan
 {
     let mut no: usize = 0;
     let mut place: usize = 0;
-    let len = scan_tree(input, 0, 0, format, &mut no, &mut place);
+    let p = lexer::skip(input, 0, format);
+    let len = scan_begun(input, p, 0, false, format, &mut no, &mut place);
     if len != 0 {
         return Scan::Complete { len };
     }
@@ -100,6 +104,39 @@ fn scan_tree(
     scan_begun(input, p, depth, false, format, no, place)
 }
 
+// Does a map or an attribute block start with this byte?
+fn opens_pairs(b: u8) -> bool
+    ensures { λ r. ⌜ (r ≡ true → (b ≡ 0x3C) ⊎ (b ≡ 0x7B)) × (r ≡ false → (b ≡ 0x3C → ⊥) × (b ≡ 0x7B → ⊥)) ⌝ }
+{
+    if b == b'<' {
+        return true;
+    }
+    if b == b'{' {
+        return true;
+    }
+    false
+}
+
+// Does an attribute block start with it?
+fn opens_attributes(b: u8) -> bool
+    ensures { λ r. ⌜ (r ≡ true → b ≡ 0x3C) × (r ≡ false → b ≡ 0x3C → ⊥) ⌝ }
+{
+    if b == b'<' {
+        return true;
+    }
+    false
+}
+
+// Does an attribute block start with it where one was passed already?
+fn second_attributes(b: u8, passed: bool) -> bool
+    ensures { λ r. ⌜ (r ≡ true → (b ≡ 0x3C) × (passed ≡ true)) × (r ≡ false → b ≡ 0x3C → passed ≡ false) ⌝ }
+{
+    if b == b'<' {
+        return passed;
+    }
+    false
+}
+
 // The value whose first token stands at `p`; where `passed`, behind its attributes.
 fn scan_begun(
     input: &[u8],
@@ -126,24 +163,25 @@ fn scan_begun(
         }
         return scan_list(input, p + 1, depth + 1, format, no, place);
     }
-    if b == b'{' {
-        if depth == MOST_OPEN {
-            *no = refusal::TOO_DEEP;
-            *place = p;
-            return 0;
-        }
-        return scan_fragment(input, p + 1, depth + 1, false, format, no, place);
+    if second_attributes(b, passed) {
+        return why(input, p, refusal::NOT_VALUE, format, no, place);
     }
-    if b == b'<' {
-        if passed {
-            return why(input, p, refusal::NOT_VALUE, format, no, place);
-        }
+    if opens_pairs(b) {
         if depth == MOST_OPEN {
             *no = refusal::TOO_DEEP;
             *place = p;
             return 0;
         }
-        return scan_attributed(input, p + 1, depth, format, no, place);
+        let attributes = opens_attributes(b);
+        let end = scan_fragment(input, p + 1, depth + 1, attributes, format, no, place);
+        if end == 0 {
+            return 0;
+        }
+        if attributes {
+            let o = lexer::skip(input, end, format);
+            return scan_attributed(input, o, depth, format, no, place);
+        }
+        return end;
     }
     let end = lexer::scalar_end(input, p, format);
     if end == 0 {
@@ -152,23 +190,18 @@ fn scan_begun(
     end
 }
 
-// The rest of an attribute block, and the value behind it.
+// The value behind an attribute block, whose first token stands at `p`.
 fn scan_attributed(
     input: &[u8],
-    from: usize,
+    p: usize,
     depth: usize,
     format: Format,
     no: &mut usize,
     place: &mut usize,
 ) -> usize
-    requires { ⌜ depth < mostOpen ⌝ }
-    ensures { λ r. ⌜ Attributed format (now (input .entry)) from depth (answerOf r (now (no .exit)) (now (place .exit))) ⌝ }
+    requires { ⌜ (depth ≤ mostOpen) × (skipOf format (now input) p ≡ p) ⌝ }
+    ensures { λ r. ⌜ Begun format (now (input .entry)) p depth true (answerOf r (now (no .exit)) (now (place .exit))) ⌝ }
 {
-    let end = scan_fragment(input, from, depth + 1, true, format, no, place);
-    if end == 0 {
-        return 0;
-    }
-    let p = lexer::skip(input, end, format);
     scan_begun(input, p, depth, true, format, no, place)
 }
 
@@ -213,6 +246,46 @@ fn scan_list(
     }
 }
 
+// The place after all the whole pairs of a short key and a scalar that follow one another in binary, each with its separator.
+fn past_flat(input: &[u8], from: usize) -> usize
+    ensures { λ r. ⌜ Along Binary (now (input .entry)) from r ⌝ }
+{
+    let mut at = from;
+    loop {
+        let key = binary::short_string_end(input, at);
+        if key == 0 {
+            return at;
+        }
+        if input.len() <= key {
+            return at;
+        }
+        if input[key] != b'=' {
+            return at;
+        }
+        let end = binary::scalar_end(input, key + 1);
+        if end == 0 {
+            return at;
+        }
+        if input.len() <= end {
+            return end;
+        }
+        if input[end] != b';' {
+            return end;
+        }
+        at = end + 1;
+    }
+}
+
+// The same in either format, where text has none that are passed so.
+fn past_pairs(input: &[u8], at: usize, format: Format) -> usize
+    ensures { λ r. ⌜ Along format (now (input .entry)) at r ⌝ }
+{
+    match format {
+        Format::Binary => past_flat(input, at),
+        Format::Text => at,
+    }
+}
+
 // The rest of a map, up to and with its `}`, or of an attribute block, to its `>`.
 fn scan_fragment(
     input: &[u8],
@@ -228,7 +301,8 @@ fn scan_fragment(
 {
     let mut at = from;
     loop {
-        let p = lexer::skip(input, at, format);
+        let q = past_pairs(input, at, format);
+        let p = lexer::skip(input, q, format);
         if input.len() <= p {
             *no = 0;
             return 0;

@@ -153,14 +153,14 @@ fn first_scalar_end(input: &[u8], p: usize) -> usize
 pub fn string_end(input: &[u8], at: usize) -> usize
     ensures { λ r. ⌜ r ≡ stringEnd (kindsOf (textFrom (now (input .entry)) at)) ⌝ }
 {
-    first_string_end(input, blanks::skip_ignored(input, at))
+    first_string_end(input, blanks::first_place(input, at))
 }
 
 // The place after the string or other scalar at a place; 0 where no whole one stands there.
 pub fn scalar_end(input: &[u8], at: usize) -> usize
     ensures { λ r. ⌜ r ≡ scalarEnd (kindsOf (textFrom (now (input .entry)) at)) ⌝ }
 {
-    first_scalar_end(input, blanks::skip_ignored(input, at))
+    first_scalar_end(input, blanks::first_place(input, at))
 }
 
 // The bytes of the string whose first byte stands at `p`, into `out`.

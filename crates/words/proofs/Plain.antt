@@ -1,14 +1,16 @@
--- The bytes of unquoted strings, and how far a run of them goes. Assumes nothing.
-use mathlib.Core.Path.{_≡_, refl, sym, ap, _∙_}
-use mathlib.Core.Bool.{Bool, true, false, _&&_, _||_, or-false}
+-- Letters by the code's tests, and where a run of the bytes of unquoted strings ends. Assumes nothing.
+use mathlib.Core.Path.{_≡_, sym}
+use mathlib.Core.Bool.{Bool, true, false, cond, not, _&&_, _||_}
 use mathlib.Core.List.{List, [], _∷_}
-use Prim.Native.Nat.{ℕ, _+_, _≤_, _<_}
+use Prim.Native.Nat.{ℕ, suc, _+_, _≤_, _<_}
+use native.Mathlib.Nat.{add-zero}
 use native.Mathlib.Omega.{arith}
-use borrow.Author.Tests.{le-leb, lt-leb, eq-eqb, ne-eqb}
-use lib.Dec.{leb, eqb}
-use lib.ListN.{length, getD, drop, drop-of-length-le}
+use borrow.Author.Tests.{le-leb, lt-leb}
+use lib.Dec.{leb}
+use lib.ListN.{drop}
+use Rattle.refusal.specs.Paper.{pick}
+use Rattle.search.specs.First.{first, firstFrom, isJoint, isEdge}
 use Rattle.words.specs.Plain.{isLetter, isDigit, isPlain, plainRun, plainEnd}
-use Rattle.words.proofs.Stands.{drop-more}
 
 module _ (b : ℕ) where
   pub letter-low : b < 65 → false ≡ isLetter b
@@ -27,24 +29,16 @@ module _ (b : ℕ) where
   unfolding isLetter
   letter-lower h k = rw (le-leb 65 b (omega arith), lt-leb b 90 h, le-leb 97 b k)
 
-  pub digit-low : b < 48 → false ≡ isDigit b
-  unfolding isDigit
-  digit-low h = rw (lt-leb 48 b h)
+-- a run ends at the first byte that is none of its bytes
+first-run : (p : ℕ) (l : List ℕ) → first isEdge p l ≡ p + plainRun l
+unfolding first isEdge isJoint isPlain isLetter isDigit plainRun
+first-run p [] = sym (add-zero p)
+first-run p (b ∷ l) = go (first-run (p + 1) l) (isPlain b)
+  where
+    go : first isEdge (p + 1) l ≡ p + 1 + plainRun l → (t : Bool) → cond (not t) p (first isEdge (p + 1) l) ≡ p + pick t (suc (plainRun l)) 0
+    go i true = omega arith
+    go i false = sym (add-zero p)
 
-  pub digit-test : 48 ≤ b → leb b 57 ≡ isDigit b
-  unfolding isDigit
-  digit-test h = rw (le-leb 48 b h)
-
-module _ (s : List ℕ) (p : ℕ) where
-  pub run-out : length s ≤ p → p ≡ plainEnd s p
-  unfolding plainEnd plainRun
-  run-out h = rw (drop-of-length-le s h) (omega arith)
-
-  module _ (h : p < length s) where
-    pub run-stop : isPlain (getD s p 0) ≡ false → p ≡ plainEnd s p
-    unfolding plainEnd plainRun
-    run-stop e = rw (drop-more s p h, e) (omega arith)
-
-    pub run-more : isPlain (getD s p 0) ≡ true → plainEnd s (p + 1) ≡ plainEnd s p
-    unfolding plainEnd plainRun
-    run-more e = rw (drop-more s p h, e) (omega arith)
+pub run-first : (s : List ℕ) (p : ℕ) → firstFrom isEdge s p ≡ plainEnd s p
+unfolding firstFrom plainEnd
+run-first s p = first-run p (drop p s)

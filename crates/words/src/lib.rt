@@ -7,7 +7,7 @@ ghost use lib.ListN.{length, drop};
 ghost use Rattle.token.specs.Meaning.{readMeaning};
 ghost use Rattle.token.specs.Ends.{endOf};
 ghost use Rattle.words.specs.Word.{stands, wordAt};
-ghost use Rattle.words.specs.Plain.{isLetter, isDigit, isPlain, plainEnd};
+ghost use Rattle.words.specs.Plain.{isLetter, plainEnd};
 ghost use Rattle.words.specs.Cases.{WordAt};
 use refusal::Refusal;
 use token::Read;
@@ -182,45 +182,9 @@ pub fn is_letter(b: u8) -> bool
     b <= b'z'
 }
 
-// `0` to `9`.
-fn is_digit(b: u8) -> bool
-    ensures { λ r. ⌜ r ≡ isDigit b ⌝ }
-{
-    if b < b'0' {
-        return false;
-    }
-    b <= b'9'
-}
-
-// Whether an unquoted string runs over a byte: a letter, a digit, `_`, `-` or `.`.
-fn is_plain(b: u8) -> bool
-    ensures { λ r. ⌜ r ≡ isPlain b ⌝ }
-{
-    if is_letter(b) {
-        return true;
-    }
-    if is_digit(b) {
-        return true;
-    }
-    if b == b'_' {
-        return true;
-    }
-    if b == b'-' {
-        return true;
-    }
-    b == b'.'
-}
-
 // The first place from `at` on whose byte no unquoted string runs over; `at` itself where it lies beyond the slice.
 pub fn plain_end(input: &[u8], at: usize) -> usize
     ensures { λ r. ⌜ r ≡ plainEnd (now (input .entry)) at ⌝ }
 {
-    let mut p = at;
-    while p < input.len() {
-        if !is_plain(input[p]) {
-            return p;
-        }
-        p += 1;
-    }
-    p
+    search::find_edge(input, at)
 }

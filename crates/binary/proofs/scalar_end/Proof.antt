@@ -1,101 +1,113 @@
--- `scalar_end` meets its contract: each arm is a row of the table of markers, without its value.
+-- `scalar_end` meets its contract: by its first byte, by the size that eight bytes tell, or by the table of markers.
 use mathlib.Core.Path.{_≡_, _∙_, sym, ap}
 use native.Mathlib.Omega.{arith}
 use denote.Ref.{now}
 use Rattle.refusal.specs.Paper.{Paper, Spot}
 use Rattle.token.specs.declared.Token.{Token}
 use Rattle.token.specs.Meaning.{kindsOf}
+use Prim.Native.Nat.{_+_}
 use Rattle.token.specs.Marks.{markOf}
 use Rattle.token.specs.Ends.{scalarEnd}
 use Rattle.binary.specs.Binary.{marked}
 use Rattle.binary.proofs.Laws.{ended, inside}
-use Rattle.binary.proofs.Ends.{string-is, int64-is, double-is, uint64-is, no-scalar}
+use Rattle.binary.proofs.Ends.{no-scalar}
+use Rattle.binary.proofs.Sizes.{small-int}
 use borrow.Author.Needs.{needs}
 use Rattle.binary.proofs.scalar_end.Statement.{statement}
 use Rattle.binary.proofs.scalar_end.Tie as tie
 
 returns : tie.Need-returns
-returns c = let x = c .before .before .args in sym (ap (λ (p : Paper (Spot Token)). scalarEnd (kindsOf p)) (ended (now (x .input)) (x .at) (c .if1 .taken)))
+returns c =
+    let x = c .before .before .args in
+    sym (ap (λ (p : Paper (Spot Token)). scalarEnd (kindsOf p)) (ended (now (x .input)) (x .at) (c .if1 .taken)))
 
 shared-slice-read-b : tie.Need-shared-slice-read-b
 shared-slice-read-b c = search needs
 
-string-at-end-requires : tie.Need-string-at-end-requires
-string-at-end-requires c κs = search needs
-
-add-uvarint-end : tie.Need-add-uvarint-end
-add-uvarint-end c = search needs
-
-uvarint-end-requires : tie.Need-uvarint-end-requires
-uvarint-end-requires c κs = search needs
-
-double-end-requires : tie.Need-double-end-requires
-double-end-requires c κs = search needs
-
 add-result : tie.Need-add-result
 add-result c = search needs
 
-add-result-2 : tie.Need-add-result-2
-add-result-2 c = search needs
-
-add-uvarint-end-2 : tie.Need-add-uvarint-end-2
-add-uvarint-end-2 c = search needs
-
-uvarint-end-requires-2 : tie.Need-uvarint-end-requires-2
-uvarint-end-requires-2 c κs = search needs
-
-add-result-3 : tie.Need-add-result-3
-add-result-3 c = search needs
-
 returns-2 : tie.Need-returns-2
+unfolding marked markOf
 returns-2 c =
     let x = c .before .before .before .before .before .args in
-    c .string-at-end .ensures ∙ string-is (now (x .input)) (x .at)
-    ∙ sym (ap (λ (p : Paper (Spot Token)). scalarEnd (kindsOf p)) (inside (now (x .input)) (x .at) (omega arith) ∙ ap (marked (now (x .input)) (x .at)) (c .before .match .keys1)))
+    sym (ap (λ (p : Paper (Spot Token)). scalarEnd (kindsOf p)) (inside (now (x .input)) (x .at) (omega arith) ∙ ap (marked (now (x .input)) (x .at)) (c .if3 .taken)))
 
 returns-3 : tie.Need-returns-3
 returns-3 c =
     let x = c .before .before .before .before .before .args in
-    c .uvarint-end .ensures ∙ int64-is (now (x .input)) (x .at)
-    ∙ sym (ap (λ (p : Paper (Spot Token)). scalarEnd (kindsOf p)) (inside (now (x .input)) (x .at) (omega arith) ∙ ap (marked (now (x .input)) (x .at)) (c .before .match .keys2)))
+    sym
+    (ap (λ (p : Paper (Spot Token)). scalarEnd (kindsOf p)) (inside (now (x .input)) (x .at) (omega arith))
+    ∙ no-scalar (now (x .input)) (x .at) _ (λ e. omega arith) (λ e. omega arith) (λ e. omega arith) (λ e. omega arith) (λ e. omega arith) (λ e. omega arith) (λ e. omega arith))
 
 returns-4 : tie.Need-returns-4
 returns-4 c =
     let x = c .before .before .before .before .before .args in
-    c .double-end .ensures ∙ double-is (now (x .input)) (x .at)
-    ∙ sym (ap (λ (p : Paper (Spot Token)). scalarEnd (kindsOf p)) (inside (now (x .input)) (x .at) (omega arith) ∙ ap (marked (now (x .input)) (x .at)) (c .before .match .keys3)))
+    sym
+    (ap (λ (p : Paper (Spot Token)). scalarEnd (kindsOf p)) (inside (now (x .input)) (x .at) (omega arith))
+    ∙ no-scalar (now (x .input)) (x .at) _ (λ e. omega arith) (λ e. omega arith) (λ e. omega arith) (λ e. omega arith) (λ e. omega arith) (λ e. omega arith) (λ e. omega arith))
+
+sub-left : tie.Need-sub-left
+sub-left c = search needs
+
+sub-left-2 : tie.Need-sub-left-2
+sub-left-2 c = search needs
+
+marked-end-requires : tie.Need-marked-end-requires
+marked-end-requires c κs = search needs
 
 returns-5 : tie.Need-returns-5
-unfolding marked
-returns-5 c =
-    let x = c .before .before .before .before .args in
-    sym (ap (λ (p : Paper (Spot Token)). scalarEnd (kindsOf p)) (inside (now (x .input)) (x .at) (omega arith) ∙ ap (marked (now (x .input)) (x .at)) (c .match .keys4)))
+returns-5 c = search needs
+
+add-if6 : tie.Need-add-if6
+add-if6 c = search needs
+
+shared-slice-read-if6 : tie.Need-shared-slice-read-if6
+shared-slice-read-if6 c = search needs
+
+mul-if6 : tie.Need-mul-if6
+mul-if6 c =
+    omega (arith, c .shared-slice-known3 .given (c .before .before .before .before .before .before .before .args .at + 1))
+
+add-if6-2 : tie.Need-add-if6-2
+add-if6-2 c =
+    omega (arith, c .shared-slice-known3 .given (c .before .before .before .before .before .before .before .args .at + 1))
+
+add-result-2 : tie.Need-add-result-2
+add-result-2 c = search needs
 
 returns-6 : tie.Need-returns-6
-unfolding marked
 returns-6 c =
-    let x = c .before .before .before .before .args in
-    sym (ap (λ (p : Paper (Spot Token)). scalarEnd (kindsOf p)) (inside (now (x .input)) (x .at) (omega arith) ∙ ap (marked (now (x .input)) (x .at)) (c .match .keys5)))
+    let x = c .before .before .before .before .before .before .before .before .args in
+    let s = now (x .input) in
+    small-int s (x .at) (omega arith) (omega arith) ∙ sym (ap (λ (p : Paper (Spot Token)). scalarEnd (kindsOf p)) (inside s (x .at) (omega arith) ∙ ap (marked s (x .at)) (omega arith)))
+
+size-of-requires : tie.Need-size-of-requires
+size-of-requires c κs = search needs
+
+marked-end-requires-2 : tie.Need-marked-end-requires-2
+marked-end-requires-2 c κs = search needs
 
 returns-7 : tie.Need-returns-7
-returns-7 c =
-    let x = c .before .before .before .before .before .args in
-    c .uvarint-end2 .ensures ∙ uint64-is (now (x .input)) (x .at)
-    ∙ sym (ap (λ (p : Paper (Spot Token)). scalarEnd (kindsOf p)) (inside (now (x .input)) (x .at) (omega arith) ∙ ap (marked (now (x .input)) (x .at)) (c .before .match .keys6)))
+returns-7 c = search needs
+
+marked-end-requires-3 : tie.Need-marked-end-requires-3
+marked-end-requires-3 c κs = search needs
 
 returns-8 : tie.Need-returns-8
-unfolding marked markOf
-returns-8 c =
-    let x = c .before .before .before .before .args in
-    sym (ap (λ (p : Paper (Spot Token)). scalarEnd (kindsOf p)) (inside (now (x .input)) (x .at) (omega arith) ∙ ap (marked (now (x .input)) (x .at)) (c .match .keys7)))
+returns-8 c = search needs
+
+add-result-3 : tie.Need-add-result-3
+add-result-3 c = search needs
+
+add-result-4 : tie.Need-add-result-4
+add-result-4 c = search needs
 
 returns-9 : tie.Need-returns-9
 returns-9 c =
-    let x = c .before .before .before .before .args in
-    let r = c .match .rest in
-    sym
-    (ap (λ (p : Paper (Spot Token)). scalarEnd (kindsOf p)) (inside (now (x .input)) (x .at) (omega arith))
-    ∙ no-scalar (now (x .input)) (x .at) _ (r .0 .0 .0 .0 .0 .0 .1) (r .0 .0 .0 .0 .0 .1) (r .0 .0 .0 .0 .1) (r .0 .0 .0 .1) (r .0 .0 .1) (r .0 .1) (r .1))
+    let x = c .before .before .before .before .before .before .before .before .before .before .before .args in
+    let s = now (x .input) in
+    c .before .before .size-of .ensures (c .if8 .left) (omega arith) ∙ sym (ap (λ (p : Paper (Spot Token)). scalarEnd (kindsOf p)) (inside s (x .at) (omega arith)))
 
 pub scalar-end-spec : {M : Type 1} → statement M
 scalar-end-spec =
@@ -103,20 +115,25 @@ scalar-end-spec =
     (tie.spec
     returns
     shared-slice-read-b
-    string-at-end-requires
-    add-uvarint-end
-    uvarint-end-requires
-    double-end-requires
     add-result
-    add-result-2
-    add-uvarint-end-2
-    uvarint-end-requires-2
-    add-result-3
     returns-2
     returns-3
     returns-4
+    sub-left
+    sub-left-2
+    marked-end-requires
     returns-5
+    add-if6
+    shared-slice-read-if6
+    mul-if6
+    add-if6-2
+    add-result-2
     returns-6
+    size-of-requires
+    marked-end-requires-2
     returns-7
+    marked-end-requires-3
     returns-8
+    add-result-3
+    add-result-4
     returns-9)

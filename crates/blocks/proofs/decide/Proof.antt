@@ -1,81 +1,104 @@
--- `decide` meets its contract, by what is due.
+-- `decide` meets its contract: the first byte tells the kind.
 use denote.Ref.{now}
 use Rattle.blocks.specs.Kept.{openIn}
-use Rattle.blocks.proofs.Ways.{decided}
-use mathlib.Core.Path.{refl}
-use Rattle.scan.specs.Step.{step, onObject, onValue, onItem, onKey, onEquals}
-use Rattle.blocks.specs.declared.Due.the-variants.{Value, Object, Item, Key, Equals}
+use Rattle.blocks.specs.Moves.{kindBy}
 use Rattle.blocks.proofs.Stack.{open-length}
+use Rattle.blocks.proofs.Firsts.{is-scalar}
+use Rattle.blocks.proofs.Ways.{by-byte}
 use borrow.Author.Needs.{needs}
 use Rattle.blocks.proofs.decide.Statement.{statement}
 use Rattle.blocks.proofs.decide.Tie as tie
 
-enum-told : tie.Need-enum-told
-enum-told c = search needs
-
-on-value-requires : tie.Need-on-value-requires
-on-value-requires c κs = search needs
-
-enum-told-2 : tie.Need-enum-told-2
-enum-told-2 c = search needs
-
-on-object-requires : tie.Need-on-object-requires
-on-object-requires c κs = search needs
-
-enum-told-3 : tie.Need-enum-told-3
-enum-told-3 c = search needs
-
-on-item-requires : tie.Need-on-item-requires
-on-item-requires c κs = search needs
-
-enum-told-4 : tie.Need-enum-told-4
-enum-told-4 c = search needs
-
-on-key-requires : tie.Need-on-key-requires
-on-key-requires c κs = search needs
-
-enum-told-5 : tie.Need-enum-told-5
-enum-told-5 c = search needs
+on-semicolon-requires : tie.Need-on-semicolon-requires
+on-semicolon-requires c κs = search needs
 
 on-equals-requires : tie.Need-on-equals-requires
 on-equals-requires c κs = search needs
 
+on-list-requires : tie.Need-on-list-requires
+on-list-requires c κs = search needs
+
+on-list-end-requires : tie.Need-on-list-end-requires
+on-list-end-requires c κs = search needs
+
+on-map-requires : tie.Need-on-map-requires
+on-map-requires c κs = search needs
+
+on-map-end-requires : tie.Need-on-map-end-requires
+on-map-end-requires c κs = search needs
+
+on-attributes-requires : tie.Need-on-attributes-requires
+on-attributes-requires c κs = search needs
+
+on-attributes-end-requires : tie.Need-on-attributes-end-requires
+on-attributes-end-requires c κs = search needs
+
+on-string-requires : tie.Need-on-string-requires
+on-string-requires c κs = search needs
+
+on-scalar-requires : tie.Need-on-scalar-requires
+on-scalar-requires c κs = search needs
+
 returns : tie.Need-returns
-unfolding step
-returns c = decided _ onValue Value refl (c .before .enum-told .given .1) (c .on-value .ensures)
+unfolding kindBy
+returns c = by-byte _ 0x3B (c .before .match .keys1) (c .on-semicolon .ensures (openIn (c .before .before .args .depth) (now (c .before .before .args .kinds))) (c .before .before .args .depth))
 
 returns-2 : tie.Need-returns-2
-unfolding step
-returns-2 c = decided _ onObject Object refl (c .before .enum-told2 .given .1) (c .on-object .ensures)
+unfolding kindBy
+returns-2 c = by-byte _ 0x3D (c .before .match .keys2) (c .on-equals .ensures (openIn (c .before .before .args .depth) (now (c .before .before .args .kinds))) (c .before .before .args .depth))
 
 returns-3 : tie.Need-returns-3
-unfolding step
-returns-3 c = decided _ onItem Item refl (c .before .enum-told3 .given .1) (c .on-item .ensures)
+unfolding kindBy
+returns-3 c = by-byte _ 0x5B (c .before .match .keys3) (c .on-list .ensures (openIn (c .before .before .args .depth) (now (c .before .before .args .kinds))) (open-length (now (c .before .before .args .kinds)) (c .before .before .args .depth)))
 
 returns-4 : tie.Need-returns-4
-unfolding step
-returns-4 c = decided _ onKey Key refl (c .before .enum-told4 .given .1) (c .on-key .ensures)
+unfolding kindBy
+returns-4 c = by-byte _ 0x5D (c .before .match .keys4) (c .on-list-end .ensures)
 
 returns-5 : tie.Need-returns-5
-unfolding step
-returns-5 c = decided _ onEquals Equals refl (c .before .enum-told5 .given .1) (rw (open-length (now (c .before .before .before .args .kinds)) (c .before .before .before .args .depth)) at (c .on-equals .ensures (openIn (c .before .before .before .args .depth) (now (c .before .before .before .args .kinds)))))
+unfolding kindBy
+returns-5 c = by-byte _ 0x7B (c .before .match .keys5) (c .on-map .ensures (openIn (c .before .before .args .depth) (now (c .before .before .args .kinds))) (open-length (now (c .before .before .args .kinds)) (c .before .before .args .depth)))
+
+returns-6 : tie.Need-returns-6
+unfolding kindBy
+returns-6 c = by-byte _ 0x7D (c .before .match .keys6) (c .on-map-end .ensures)
+
+returns-7 : tie.Need-returns-7
+unfolding kindBy
+returns-7 c = by-byte _ 0x3C (c .before .match .keys7) (c .on-attributes .ensures (openIn (c .before .before .args .depth) (now (c .before .before .args .kinds))) (open-length (now (c .before .before .args .kinds)) (c .before .before .args .depth)))
+
+returns-8 : tie.Need-returns-8
+unfolding kindBy
+returns-8 c = by-byte _ 0x3E (c .before .match .keys8) (c .on-attributes-end .ensures)
+
+returns-9 : tie.Need-returns-9
+unfolding kindBy
+returns-9 c = by-byte _ 0x01 (c .before .match .keys9) (c .on-string .ensures)
+
+returns-10 : tie.Need-returns-10
+returns-10 c = let m = c .before .match .rest in rw (is-scalar (c .before .before .args .b) (m .0 .0 .0 .0 .0 .0 .1) (m .0 .0 .0 .0 .0 .1) (m .0 .0 .0 .0 .1) (m .0 .0 .0 .1) (m .0 .0 .1) (m .0 .1) (m .0 .0 .0 .0 .0 .0 .0 .1) (m .0 .0 .0 .0 .0 .0 .0 .0 .1) (m .1)) (c .on-scalar .ensures)
 
 pub decide-spec : {M : Type 1} → statement M
 decide-spec =
     tie.close
     (tie.spec
-    enum-told
-    on-value-requires
-    enum-told-2
-    on-object-requires
-    enum-told-3
-    on-item-requires
-    enum-told-4
-    on-key-requires
-    enum-told-5
+    on-semicolon-requires
     on-equals-requires
+    on-list-requires
+    on-list-end-requires
+    on-map-requires
+    on-map-end-requires
+    on-attributes-requires
+    on-attributes-end-requires
+    on-string-requires
+    on-scalar-requires
     returns
     returns-2
     returns-3
     returns-4
-    returns-5)
+    returns-5
+    returns-6
+    returns-7
+    returns-8
+    returns-9
+    returns-10)

@@ -1,4 +1,4 @@
--- `ended` meets its contract: the blocks around the innermost decide what follows.
+-- `ended` meets its contract: the block around decides what follows.
 use Rattle.blocks.proofs.Ways.{ended-none, ended-list, ended-other}
 use native.Mathlib.Omega.{arith}
 use borrow.Author.Needs.{needs}

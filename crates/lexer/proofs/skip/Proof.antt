@@ -13,8 +13,8 @@ enum-told c = search needs
 enum-told-2 : tie.Need-enum-told-2
 enum-told-2 c = search needs
 
-skip-ignored-requires : tie.Need-skip-ignored-requires
-skip-ignored-requires c κs = search needs
+first-place-requires : tie.Need-first-place-requires
+first-place-requires c κs = search needs
 
 returns : tie.Need-returns
 unfolding skipOf
@@ -22,7 +22,7 @@ returns c = let x = c .before .before .before .args in ap (λ (f : Format). skip
 
 returns-2 : tie.Need-returns-2
 unfolding skipOf
-returns-2 c = let x = c .before .before .before .before .args in c .skip-ignored .ensures ∙ ap (λ (f : Format). skipOf f (now (x .input)) (x .at)) (sym (c .before .enum-told2 .given .1))
+returns-2 c = let x = c .before .before .before .before .args in c .first-place .ensures ∙ ap (λ (f : Format). skipOf f (now (x .input)) (x .at)) (sym (c .before .enum-told2 .given .1))
 
 pub skip-spec : {M : Type 1} → statement M
-skip-spec = tie.close (tie.spec enum-told enum-told-2 skip-ignored-requires returns returns-2)
+skip-spec = tie.close (tie.spec enum-told enum-told-2 first-place-requires returns returns-2)

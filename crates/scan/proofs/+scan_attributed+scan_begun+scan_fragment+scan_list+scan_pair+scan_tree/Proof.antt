@@ -7,12 +7,13 @@ use native.Mathlib.Omega.{arith}
 use lib.ListN.{length}
 use borrow.Author.Needs.{needs}
 use Rattle.refusal.specs.Numbers.{notValue, notKey}
-use Rattle.lexer.specs.Lexer.{list-opens, list-closes, map-opens, map-closes, attributes-open, attributes-close}
-use Rattle.scan.specs.Step.{list, map, attributes, value, item, key, equals}
+use Rattle.lexer.specs.Lexer.{list-opens, list-closes, map-closes, attributes-open, attributes-close}
+use Rattle.scan.specs.Step.{list, value, item, key, equals}
 use Rattle.scan.specs.Post.{blockOf, dueOf}
 use Rattle.scan.proofs.Tokens.{skip-on, skip-here}
-use Rattle.scan.proofs.Arms.{opens-attributes, attributes-passed, opens-list, opens-map, list-ends, item-next, key-next, after-item, after-key, map-ends, map-wrong, attributes-end, attributes-wrong, list-closed, map-closed}
-use Rattle.scan.proofs.Parts.{Here, stop, whole-on, skipped, ended, mark-wrong, too, into, begun-in, begun-attributed, begun-whole, begun-none, attributed-in, attributed-then, pair-tree, pair-none, item-begun, key-pair, key-none, string-run, scalar-run, from-here, block-end, block-next, block-more, block-stop}
+use Rattle.scan.proofs.Arms.{attributes-passed, opens-list, list-ends, item-next, key-next, after-item, after-key, map-ends, map-wrong, attributes-end, attributes-wrong, list-closed}
+use Rattle.scan.proofs.Parts.{Here, stop, whole-on, skipped, ended, mark-wrong, too, into, begun-in, begun-whole, begun-none, pair-tree, pair-none, item-begun, key-pair, key-none, string-run, scalar-run, from-here, block-end, block-next, block-more, block-stop}
+use Rattle.scan.proofs.Pairs.{pairs-too, pairs-stop, pairs-whole, pairs-then, along-here}
 use borrow.Fn.Kinds.{In}
 use borrow.Fn.PlainCycle.{Measures, is, falls, and}
 use Rattle.scan.proofs.scan_attributed.Reads as scan-attributed
@@ -36,6 +37,10 @@ use Rattle.scan.proofs.+scan_attributed+scan_begun+scan_fragment+scan_l
 use Rattle.lexer.proofs.scalar_end.Reads as scalar-end-reads
 use Rattle.lexer.proofs.skip.Reads as skip-reads
 use Rattle.lexer.proofs.string_end.Reads as string-end-reads
+use Rattle.scan.proofs.opens_attributes.Reads as opens-attributes-reads
+use Rattle.scan.proofs.opens_pairs.Reads as opens-pairs-reads
+use Rattle.scan.proofs.past_pairs.Reads as past-pairs-reads
+use Rattle.scan.proofs.second_attributes.Reads as second-attributes-reads
 use Rattle.scan.proofs.why.Reads as why-reads
 use Rattle.scan.proofs.+scan_attributed+scan_begun+scan_fragment+scan_list+scan_pair+scan_tree.{
   statement,
@@ -45,7 +50,7 @@ use Rattle.scan.proofs.+scan_attributed+scan_begun+scan_fragment+scan_l
 }
 
 abbrev μ-scan-attributed : Measures 3 scan-attributed-kinds.ps ℕ
-μ-scan-attributed κs a = 4 * (length (a .0 .now) - a .1 .0) + 4
+μ-scan-attributed κs a = 4 * (length (a .0 .now) - a .1 .0) + 3
 
 abbrev μ-scan-begun : Measures 3 scan-begun-kinds.ps ℕ
 μ-scan-begun κs a = 4 * (length (a .0 .now) - a .1 .0) + 2
@@ -141,35 +146,29 @@ pub +scan-attributed+scan-begun+scan-fragment+scan-list+scan-pair+scan-tree-spec
     μ-scan-list
     μ-scan-pair
     μ-scan-tree
-    (λ t. scan-attributed-lts.spec (
+    (λ t. scan-attributed-lts.spec
+    (scan-begun-below t, scan-begun.Post)
+    (scan-attributed-at t)
+    scan-attributed.Post
+    -- scan-begun-requires
+    (λ c κs. (omega arith, (c .before .before .before .pre .1 .0, c .before .before .before .pre .1 .1)))
+    -- returns
+    (λ c. c .scan-begun .ensures))
+    (λ t. scan-begun-lts.spec (
+      scan-list-below t,
+      scan-list.Post,
+      second-attributes-reads.Asked,
+      second-attributes-reads.Learnt,
+      why-reads.Asked,
+      why-reads.Learnt,
+      opens-pairs-reads.Asked,
+      opens-pairs-reads.Learnt,
+      opens-attributes-reads.Asked,
+      opens-attributes-reads.Learnt,
       scan-fragment-below t,
       scan-fragment.Post,
       skip-reads.Asked,
       skip-reads.Learnt,
-      scan-begun-below t,
-      scan-begun.Post,
-    )
-    (scan-attributed-at t)
-    scan-attributed.Post
-    -- add-scan-fragment
-    (λ c. search needs)
-    -- scan-fragment-requires
-    (λ c κs. (omega arith, omega arith))
-    -- returns
-    (λ c. stop _ _ _ (attributed-in _ _ _ _ (c .before .scan-fragment .ensures)) (c .if1 .taken))
-    -- skip-requires
-    (λ c κs. search needs)
-    -- scan-begun-requires
-    (λ c κs. (let g = whole-on _ _ _ (c .before .before .before .before .scan-fragment .ensures) (c .before .before .before .if1 .left) in omega (arith, g .1, g .2, skip-on _ _ _ _ (c .before .before .skip .ensures)), (omega (arith, c .before .before .before .before .before .before .before .before .pre .1), skip-here _ _ _ _ (c .before .before .skip .ensures))))
-    -- returns-2
-    (λ c. attributed-then _ _ _ _ _ _ _ _ (c .before .before .before .before .before .scan-fragment .ensures) (c .before .before .before .before .if1 .left) (c .before .before .before .skip .ensures) (c .scan-begun .ensures)))
-    (λ t. scan-begun-lts.spec (
-      scan-list-below t,
-      scan-list.Post,
-      scan-fragment-below t,
-      scan-fragment.Post,
-      why-reads.Asked,
-      why-reads.Learnt,
       scan-attributed-below t,
       scan-attributed.Post,
       scalar-end-reads.Asked,
@@ -191,37 +190,45 @@ pub +scan-attributed+scan-begun+scan-fragment+scan-list+scan-pair+scan-tree-spec
     (λ c κs. (omega arith, omega arith))
     -- returns-3
     (λ c. begun-in _ _ _ (c .before .before .before .before .before .before .before .before .pre .1 .1) _ (c .before .before .before .before .before .before .before .before .args .passed) list list-closed (into _ _ _ (c .before .before .before .before .before .before .before .before .pre .1 .1) _ list-opens list (dueOf (c .before .before .before .before .before .before .before .before .args .passed)) item (c .before .before .before .before .before .before .if1 .left) (c .before .before .before .before .if2 .taken) (opens-list (c .before .before .before .before .before .before .before .before .args .passed)) (c .before .before .before .before .before .before .before .before .pre .1 .0) (c .before .before .before .if3 .left) (c .scan-list .ensures)))
+    -- second-attributes-requires
+    (λ c κs. search needs)
+    -- why-requires
+    (λ c κs. search needs)
     -- returns-4
-    (λ c. too _ _ _ (c .before .before .before .before .before .before .pre .1 .1) _ map-opens map (dueOf (c .before .before .before .before .before .before .args .passed)) key (c .before .before .before .before .if1 .left) (c .before .if4 .taken) (opens-map (c .before .before .before .before .before .before .args .passed)) (c .if5 .taken))
+    (λ c. let g = c .before .before .before .before .second-attributes .ensures .0 (c .before .before .before .if4 .taken) in mark-wrong _ _ _ (c .before .before .before .before .before .before .before .before .before .pre .1 .1) attributes-open (c .before .before .before .before .before .before .before .if1 .left) (g .0) notValue (λ K. K) (dueOf (c .before .before .before .before .before .before .before .before .before .args .passed)) (omega arith) (omega arith) (attributes-passed _ (g .1)) (c .why .ensures))
+    -- opens-pairs-requires
+    (λ c κs. search needs)
+    -- returns-5
+    (λ c. pairs-too _ _ _ (c .before .before .before .before .before .before .before .before .before .pre .1 .1) _ (c .before .before .before .before .before .before .before .before .before .args .passed) (c .before .before .before .before .before .before .before .if1 .left) (c .before .before .opens-pairs .ensures .0 (c .before .if5 .taken)) (c .before .before .before .before .second-attributes .ensures .1 (c .before .before .before .if4 .left)) (c .if6 .taken))
+    -- opens-attributes-requires
+    (λ c κs. search needs)
     -- add-scan-fragment
     (λ c. search needs)
     -- add-scan-fragment-2
     (λ c. search needs)
     -- scan-fragment-requires
     (λ c κs. (omega arith, omega arith))
-    -- returns-5
-    (λ c. begun-in _ _ _ (c .before .before .before .before .before .before .before .before .before .pre .1 .1) _ (c .before .before .before .before .before .before .before .before .before .args .passed) map map-closed (into _ _ _ (c .before .before .before .before .before .before .before .before .before .pre .1 .1) _ map-opens map (dueOf (c .before .before .before .before .before .before .before .before .before .args .passed)) key (c .before .before .before .before .before .before .before .if1 .left) (c .before .before .before .before .if4 .taken) (opens-map (c .before .before .before .before .before .before .before .before .before .args .passed)) (c .before .before .before .before .before .before .before .before .before .pre .1 .0) (c .before .before .before .if5 .left) (c .scan-fragment .ensures)))
-    -- why-requires
-    (λ c κs. search needs)
     -- returns-6
-    (λ c. mark-wrong _ _ _ (c .before .before .before .before .before .before .before .before .before .before .pre .1 .1) attributes-open (c .before .before .before .before .before .before .before .before .if1 .left) (c .before .before .before .before .if6 .taken) notValue (λ K. K) (dueOf (c .before .before .before .before .before .before .before .before .before .before .args .passed)) (omega arith) (omega arith) (attributes-passed _ (c .before .before .before .if7 .taken)) (c .why .ensures))
-    -- returns-7
-    (λ c. too _ _ _ (c .before .before .before .before .before .before .before .before .pre .1 .1) _ attributes-open attributes (dueOf (c .before .before .before .before .before .before .before .before .args .passed)) key (c .before .before .before .before .before .before .if1 .left) (c .before .before .if6 .taken) (opens-attributes _ (c .before .if7 .left)) (c .if8 .taken))
-    -- add-scan-attributed
-    (λ c. search needs)
+    (λ c. pairs-stop _ _ _ (c .before .before .before .before .before .before .before .before .before .before .before .before .before .before .pre .1 .1) _ (c .before .before .before .before .before .before .before .before .before .before .before .before .before .before .args .passed) (c .before .before .before .before .before .before .before .before .before .before .before .before .if1 .left) (c .before .before .before .before .before .before .before .opens-pairs .ensures .0 (c .before .before .before .before .before .before .if5 .taken)) (c .before .before .before .before .before .before .before .before .before .second-attributes .ensures .1 (c .before .before .before .before .before .before .before .before .if4 .left)) (c .before .before .before .before .before .before .before .before .before .before .before .before .before .before .pre .1 .0) (c .before .before .before .before .before .if6 .left) _ _ _ _ (c .before .before .before .before .opens-attributes .ensures .0) (c .before .before .before .before .opens-attributes .ensures .1) (c .before .scan-fragment .ensures) (c .if7 .taken))
+    -- skip-requires
+    (λ c κs. search needs)
     -- scan-attributed-requires
-    (λ c κs. (omega arith, omega arith))
+    (λ c κs. (let g = whole-on _ _ _ (c .before .before .before .before .before .scan-fragment .ensures) (c .before .before .before .before .if7 .left) in omega (arith, g .1, g .2, skip-on _ _ _ _ (c .before .before .skip .ensures)), (c .before .before .before .before .before .before .before .before .before .before .before .before .before .before .before .before .before .before .pre .1 .0, skip-here _ _ _ _ (c .before .before .skip .ensures))))
+    -- returns-7
+    (λ c. pairs-then _ _ _ (c .before .before .before .before .before .before .before .before .before .before .before .before .before .before .before .before .before .before .before .pre .1 .1) _ (c .before .before .before .before .before .before .before .before .before .before .before .before .before .before .before .before .before .before .before .args .passed) (c .before .before .before .before .before .before .before .before .before .before .before .before .before .before .before .before .before .if1 .left) (c .before .before .before .before .before .before .before .before .before .before .before .before .opens-pairs .ensures .0 (c .before .before .before .before .before .before .before .before .before .before .before .if5 .taken)) (c .before .before .before .before .before .before .before .before .before .before .before .before .before .before .second-attributes .ensures .1 (c .before .before .before .before .before .before .before .before .before .before .before .before .before .if4 .left)) (c .before .before .before .before .before .before .before .before .before .before .before .before .before .before .before .before .before .before .before .pre .1 .0) (c .before .before .before .before .before .before .before .before .before .before .if6 .left) _ _ _ _ _ (c .before .before .before .before .if8 .taken) (c .before .before .before .before .before .before .before .before .before .opens-attributes .ensures .0) (c .before .before .before .before .before .before .scan-fragment .ensures) (c .before .before .before .before .before .if7 .left) (c .before .before .before .skip .ensures) (c .scan-attributed .ensures))
     -- returns-8
-    (λ c. begun-attributed _ _ _ (c .before .before .before .before .before .before .before .before .before .before .before .pre .1 .1) _ (c .before .before .before .before .before .before .before .before .before .before .before .args .passed) (c .before .before .before .before .if7 .left) (c .before .before .before .before .before .before .before .before .before .if1 .left) (c .before .before .before .before .before .if6 .taken) (c .before .before .before .before .before .before .before .before .before .before .before .pre .1 .0) (c .before .before .before .if8 .left) (c .scan-attributed .ensures))
+    (λ c. pairs-whole _ _ _ (c .before .before .before .before .before .before .before .before .before .before .before .before .before .before .before .pre .1 .1) _ (c .before .before .before .before .before .before .before .before .before .before .before .before .before .before .before .args .passed) (c .before .before .before .before .before .before .before .before .before .before .before .before .before .if1 .left) (c .before .before .before .before .before .before .before .before .opens-pairs .ensures .0 (c .before .before .before .before .before .before .before .if5 .taken)) (c .before .before .before .before .before .before .before .before .before .before .second-attributes .ensures .1 (c .before .before .before .before .before .before .before .before .before .if4 .left)) (c .before .before .before .before .before .before .before .before .before .before .before .before .before .before .before .pre .1 .0) (c .before .before .before .before .before .before .if6 .left) _ (c .if8 .left) (c .before .before .before .before .before .opens-attributes .ensures .1) (c .before .before .scan-fragment .ensures))
     -- scalar-end-requires
     (λ c κs. search needs)
     -- why-requires-2
     (λ c κs. search needs)
     -- returns-9
-    (λ c. begun-none _ _ _ (c .before .before .before .before .before .before .before .before .before .before .before .pre .1 .1) _ _ (c .before .before .before .before .before .before .before .before .before .before .before .args .passed) (c .before .before .before .before .before .before .before .if2 .left) (c .before .before .before .before .before .before .if4 .left) (c .before .before .before .before .before .if6 .left) (c .before .before .before .before .scalar-end .ensures) (c .before .before .before .if9 .taken) (c .why2 .ensures))
+    (λ c. let g = c .before .before .before .before .before .before .opens-pairs .ensures .1 (c .before .before .before .before .before .if5 .left) in begun-none _ _ _ (c .before .before .before .before .before .before .before .before .before .before .before .before .before .pre .1 .1) _ _ (c .before .before .before .before .before .before .before .before .before .before .before .before .before .args .passed) (c .before .before .before .before .before .before .before .before .before .if2 .left) (g .1) (g .0) (c .before .before .before .before .scalar-end .ensures) (c .before .before .before .if9 .taken) (c .why2 .ensures))
     -- returns-10
-    (λ c. begun-whole _ _ _ _ (c .before .before .before .before .before .before .before .before .args .passed) _ _ _ (c .before .scalar-end .ensures) (c .if9 .left)))
+    (λ c. begun-whole _ _ _ _ (c .before .before .before .before .before .before .before .before .before .before .args .passed) _ _ _ (c .before .scalar-end .ensures) (c .if9 .left)))
     (λ t. scan-fragment-lts.spec (
+      past-pairs-reads.Asked,
+      past-pairs-reads.Learnt,
       skip-reads.Asked,
       skip-reads.Learnt,
       why-reads.Asked,
@@ -237,48 +244,50 @@ pub +scan-attributed+scan-begun+scan-fragment+scan-list+scan-pair+scan-tree-spec
     scan-fragment-μ-loop
     -- loop-holds
     (λ c. search needs)
+    -- past-pairs-requires
+    (λ c κs. search needs)
     -- skip-requires
     (λ c κs. search needs)
     -- returns
-    (λ c. from-here _ _ (blockOf (c .before .before .before .before .args .attributes)) key _ _ _ (c .before .before .loop .inv) _ (c .before .skip .ensures) (ended _ _ _ _ (λ K. (blockOf (c .before .before .before .before .args .attributes)) ∷ K) key (c .if1 .taken)))
+    (λ c. from-here _ _ (blockOf (c .before .before .before .before .before .args .attributes)) key _ _ _ (along-here _ _ (c .before .before .before .before .before .args .attributes) _ _ _ _ (c .before .before .before .loop .inv) (c .before .before .past-pairs .ensures)) _ (c .before .skip .ensures) (ended _ _ _ _ (λ K. (blockOf (c .before .before .before .before .before .args .attributes)) ∷ K) key (c .if1 .taken)))
     -- shared-slice-read-b
     (λ c. search needs)
     -- why-requires
     (λ c κs. search needs)
     -- returns-2
-    (λ c. from-here _ _ (blockOf (c .before .before .before .before .before .before .before .before .before .before .args .attributes)) key _ _ _ (c .before .before .before .before .before .before .before .before .loop .inv) _ (c .before .before .before .before .before .before .before .skip .ensures) (mark-wrong _ _ _ (skip-here _ _ _ _ (c .before .before .before .before .before .before .before .skip .ensures)) map-closes (c .before .before .before .before .before .before .if1 .left) (c .before .before .before .before .if2 .taken) notKey (λ K. (blockOf (c .before .before .before .before .before .before .before .before .before .before .args .attributes)) ∷ K) key (omega arith) (omega arith) (λ K. map-wrong _ K (c .before .before .before .if3 .taken)) (c .why .ensures)))
+    (λ c. from-here _ _ (blockOf (c .before .before .before .before .before .before .before .before .before .before .before .args .attributes)) key _ _ _ (along-here _ _ (c .before .before .before .before .before .before .before .before .before .before .before .args .attributes) _ _ _ _ (c .before .before .before .before .before .before .before .before .before .loop .inv) (c .before .before .before .before .before .before .before .before .past-pairs .ensures)) _ (c .before .before .before .before .before .before .before .skip .ensures) (mark-wrong _ _ _ (skip-here _ _ _ _ (c .before .before .before .before .before .before .before .skip .ensures)) map-closes (c .before .before .before .before .before .before .if1 .left) (c .before .before .before .before .if2 .taken) notKey (λ K. (blockOf (c .before .before .before .before .before .before .before .before .before .before .before .args .attributes)) ∷ K) key (omega arith) (omega arith) (λ K. map-wrong _ K (c .before .before .before .if3 .taken)) (c .why .ensures)))
     -- add-result
     (λ c. search needs)
     -- returns-3
-    (λ c. block-end _ _ (blockOf (c .before .before .before .before .before .before .before .args .attributes)) key _ _ _ (c .before .before .before .before .before .loop .inv) _ (c .before .before .before .before .skip .ensures) _ _ map-closes (c .before .before .before .if1 .left) (c .before .if2 .taken) (λ K. map-ends _ K (c .if3 .left)))
+    (λ c. block-end _ _ (blockOf (c .before .before .before .before .before .before .before .before .args .attributes)) key _ _ _ (along-here _ _ (c .before .before .before .before .before .before .before .before .args .attributes) _ _ _ _ (c .before .before .before .before .before .before .loop .inv) (c .before .before .before .before .before .past-pairs .ensures)) _ (c .before .before .before .before .skip .ensures) _ _ map-closes (c .before .before .before .if1 .left) (c .before .if2 .taken) (λ K. map-ends _ K (c .if3 .left)))
     -- add-result-2
     (λ c. search needs)
     -- returns-4
-    (λ c. block-end _ _ (blockOf (c .before .before .before .before .before .before .before .before .args .attributes)) key _ _ _ (c .before .before .before .before .before .before .loop .inv) _ (c .before .before .before .before .before .skip .ensures) _ _ attributes-close (c .before .before .before .before .if1 .left) (c .before .if4 .taken) (λ K. attributes-end _ K (c .if5 .taken)))
+    (λ c. block-end _ _ (blockOf (c .before .before .before .before .before .before .before .before .before .args .attributes)) key _ _ _ (along-here _ _ (c .before .before .before .before .before .before .before .before .before .args .attributes) _ _ _ _ (c .before .before .before .before .before .before .before .loop .inv) (c .before .before .before .before .before .before .past-pairs .ensures)) _ (c .before .before .before .before .before .skip .ensures) _ _ attributes-close (c .before .before .before .before .if1 .left) (c .before .if4 .taken) (λ K. attributes-end _ K (c .if5 .taken)))
     -- why-requires-2
     (λ c κs. search needs)
     -- returns-5
-    (λ c. from-here _ _ (blockOf (c .before .before .before .before .before .before .before .before .before .before .before .args .attributes)) key _ _ _ (c .before .before .before .before .before .before .before .before .before .loop .inv) _ (c .before .before .before .before .before .before .before .before .skip .ensures) (mark-wrong _ _ _ (skip-here _ _ _ _ (c .before .before .before .before .before .before .before .before .skip .ensures)) attributes-close (c .before .before .before .before .before .before .before .if1 .left) (c .before .before .before .before .if4 .taken) notKey (λ K. (blockOf (c .before .before .before .before .before .before .before .before .before .before .before .args .attributes)) ∷ K) key (omega arith) (omega arith) (λ K. attributes-wrong _ K (c .before .before .before .if5 .left)) (c .why2 .ensures)))
+    (λ c. from-here _ _ (blockOf (c .before .before .before .before .before .before .before .before .before .before .before .before .args .attributes)) key _ _ _ (along-here _ _ (c .before .before .before .before .before .before .before .before .before .before .before .before .args .attributes) _ _ _ _ (c .before .before .before .before .before .before .before .before .before .before .loop .inv) (c .before .before .before .before .before .before .before .before .before .past-pairs .ensures)) _ (c .before .before .before .before .before .before .before .before .skip .ensures) (mark-wrong _ _ _ (skip-here _ _ _ _ (c .before .before .before .before .before .before .before .before .skip .ensures)) attributes-close (c .before .before .before .before .before .before .before .if1 .left) (c .before .before .before .before .if4 .taken) notKey (λ K. (blockOf (c .before .before .before .before .before .before .before .before .before .before .before .before .args .attributes)) ∷ K) key (omega arith) (omega arith) (λ K. attributes-wrong _ K (c .before .before .before .if5 .left)) (c .why2 .ensures)))
     -- add-at
     (λ c. search needs)
     -- loop-less
-    (λ c. omega (arith, skip-on _ _ _ _ (c .before .before .before .before .before .skip .ensures)))
+    (λ c. omega (arith, skip-on _ _ _ _ (c .before .before .before .before .before .skip .ensures), c .before .before .before .before .before .before .past-pairs .ensures .0))
     -- loop-again
-    (λ c. block-next _ _ (blockOf (c .before .before .before .before .before .before .before .before .args .attributes)) key _ _ _ (c .before .before .before .before .before .before .loop .inv) _ (c .before .before .before .before .before .skip .ensures) (c .before .before .before .before .if1 .left) (c .if6 .taken) (λ K. key-next ((blockOf (c .before .before .before .before .before .before .before .before .args .attributes)) ∷ K)))
+    (λ c. block-next _ _ (blockOf (c .before .before .before .before .before .before .before .before .before .args .attributes)) key _ _ _ (along-here _ _ (c .before .before .before .before .before .before .before .before .before .args .attributes) _ _ _ _ (c .before .before .before .before .before .before .before .loop .inv) (c .before .before .before .before .before .before .past-pairs .ensures)) _ (c .before .before .before .before .before .skip .ensures) (c .before .before .before .before .if1 .left) (c .if6 .taken) (λ K. key-next ((blockOf (c .before .before .before .before .before .before .before .before .before .args .attributes)) ∷ K)))
     -- string-end-requires
     (λ c κs. search needs)
     -- why-requires-3
     (λ c κs. search needs)
     -- returns-6
-    (λ c. from-here _ _ (blockOf (c .before .before .before .before .before .before .before .before .before .before .before .before .before .args .attributes)) key _ _ _ (c .before .before .before .before .before .before .before .before .before .before .before .loop .inv) _ (c .before .before .before .before .before .before .before .before .before .before .skip .ensures) (key-none _ _ _ (skip-here _ _ _ _ (c .before .before .before .before .before .before .before .before .before .before .skip .ensures)) 0 _ (blockOf (c .before .before .before .before .before .before .before .before .before .before .before .before .before .args .attributes)) (c .before .before .before .before .before .before .before .if2 .left) (c .before .before .before .before .before .before .if4 .left) (c .before .before .before .before .before .if6 .left) (c .before .before .before .before .string-end .ensures) (c .before .before .before .if7 .taken) (c .why3 .ensures)))
+    (λ c. from-here _ _ (blockOf (c .before .before .before .before .before .before .before .before .before .before .before .before .before .before .args .attributes)) key _ _ _ (along-here _ _ (c .before .before .before .before .before .before .before .before .before .before .before .before .before .before .args .attributes) _ _ _ _ (c .before .before .before .before .before .before .before .before .before .before .before .before .loop .inv) (c .before .before .before .before .before .before .before .before .before .before .before .past-pairs .ensures)) _ (c .before .before .before .before .before .before .before .before .before .before .skip .ensures) (key-none _ _ _ (skip-here _ _ _ _ (c .before .before .before .before .before .before .before .before .before .before .skip .ensures)) 0 _ (blockOf (c .before .before .before .before .before .before .before .before .before .before .before .before .before .before .args .attributes)) (c .before .before .before .before .before .before .before .if2 .left) (c .before .before .before .before .before .before .if4 .left) (c .before .before .before .before .before .if6 .left) (c .before .before .before .before .string-end .ensures) (c .before .before .before .if7 .taken) (c .why3 .ensures)))
     -- scan-pair-requires
-    (λ c κs. (let g = string-run (c .before .before .before .before .before .before .before .before .before .before .before .before .args .format) _ _ _ (c .before .before .if7 .left) (c .before .before .before .string-end .ensures) in omega (arith, g .1, g .2, c .before .before .before .before .before .before .before .before .before .before .loop .inv .0, skip-on _ _ _ _ (c .before .before .before .before .before .before .before .before .before .skip .ensures)), c .before .before .before .before .before .before .before .before .before .before .before .before .pre .1))
+    (λ c κs. (let g = string-run (c .before .before .before .before .before .before .before .before .before .before .before .before .before .args .format) _ _ _ (c .before .before .if7 .left) (c .before .before .before .string-end .ensures) in omega (arith, g .1, g .2, (along-here _ _ (c .before .before .before .before .before .before .before .before .before .before .before .before .before .args .attributes) _ _ _ _ (c .before .before .before .before .before .before .before .before .before .before .before .loop .inv) (c .before .before .before .before .before .before .before .before .before .before .past-pairs .ensures)) .0, skip-on _ _ _ _ (c .before .before .before .before .before .before .before .before .before .skip .ensures), c .before .before .before .before .before .before .before .before .before .before .past-pairs .ensures .0), c .before .before .before .before .before .before .before .before .before .before .before .before .before .pre .1))
     -- returns-7
-    (λ c. block-stop _ _ (blockOf (c .before .before .before .before .before .before .before .before .before .before .before .before .before .before .args .attributes)) key _ _ _ (c .before .before .before .before .before .before .before .before .before .before .before .before .loop .inv) _ (c .before .before .before .before .before .before .before .before .before .before .before .skip .ensures) _ _ _ (key-pair _ _ _ _ _ (blockOf (c .before .before .before .before .before .before .before .before .before .before .before .before .before .before .args .attributes)) (c .before .before .before .before .before .string-end .ensures) (c .before .before .before .before .if7 .left) (c .before .scan-pair .ensures)) (c .if8 .taken))
+    (λ c. block-stop _ _ (blockOf (c .before .before .before .before .before .before .before .before .before .before .before .before .before .before .before .args .attributes)) key _ _ _ (along-here _ _ (c .before .before .before .before .before .before .before .before .before .before .before .before .before .before .before .args .attributes) _ _ _ _ (c .before .before .before .before .before .before .before .before .before .before .before .before .before .loop .inv) (c .before .before .before .before .before .before .before .before .before .before .before .before .past-pairs .ensures)) _ (c .before .before .before .before .before .before .before .before .before .before .before .skip .ensures) _ _ _ (key-pair _ _ _ _ _ (blockOf (c .before .before .before .before .before .before .before .before .before .before .before .before .before .before .before .args .attributes)) (c .before .before .before .before .before .string-end .ensures) (c .before .before .before .before .if7 .left) (c .before .scan-pair .ensures)) (c .if8 .taken))
     -- loop-less-2
-    (λ c. let g = whole-on _ _ _ (c .before .scan-pair .ensures) (c .if8 .left) in let h = string-run (c .before .before .before .before .before .before .before .before .before .before .before .before .before .before .args .format) _ _ _ (c .before .before .before .before .if7 .left) (c .before .before .before .before .before .string-end .ensures) in omega (arith, g .1, g .2, h .1, skip-on _ _ _ _ (c .before .before .before .before .before .before .before .before .before .before .before .skip .ensures)))
+    (λ c. let g = whole-on _ _ _ (c .before .scan-pair .ensures) (c .if8 .left) in let h = string-run (c .before .before .before .before .before .before .before .before .before .before .before .before .before .before .before .args .format) _ _ _ (c .before .before .before .before .if7 .left) (c .before .before .before .before .before .string-end .ensures) in omega (arith, g .1, g .2, h .1, skip-on _ _ _ _ (c .before .before .before .before .before .before .before .before .before .before .before .skip .ensures), c .before .before .before .before .before .before .before .before .before .before .before .before .past-pairs .ensures .0))
     -- loop-again-2
-    (λ c. block-more _ _ (blockOf (c .before .before .before .before .before .before .before .before .before .before .before .before .before .before .args .attributes)) key _ _ _ (c .before .before .before .before .before .before .before .before .before .before .before .before .loop .inv) _ (c .before .before .before .before .before .before .before .before .before .before .before .skip .ensures) _ _ _ (after-key (c .before .before .before .before .before .before .before .before .before .before .before .before .before .before .args .attributes)) (key-pair _ _ _ _ _ (blockOf (c .before .before .before .before .before .before .before .before .before .before .before .before .before .before .args .attributes)) (c .before .before .before .before .before .string-end .ensures) (c .before .before .before .before .if7 .left) (c .before .scan-pair .ensures)) (c .if8 .left)))
+    (λ c. block-more _ _ (blockOf (c .before .before .before .before .before .before .before .before .before .before .before .before .before .before .before .args .attributes)) key _ _ _ (along-here _ _ (c .before .before .before .before .before .before .before .before .before .before .before .before .before .before .before .args .attributes) _ _ _ _ (c .before .before .before .before .before .before .before .before .before .before .before .before .before .loop .inv) (c .before .before .before .before .before .before .before .before .before .before .before .before .past-pairs .ensures)) _ (c .before .before .before .before .before .before .before .before .before .before .before .skip .ensures) _ _ _ (after-key (c .before .before .before .before .before .before .before .before .before .before .before .before .before .before .before .args .attributes)) (key-pair _ _ _ _ _ (blockOf (c .before .before .before .before .before .before .before .before .before .before .before .before .before .before .before .args .attributes)) (c .before .before .before .before .before .string-end .ensures) (c .before .before .before .before .if7 .left) (c .before .scan-pair .ensures)) (c .if8 .left)))
     (λ t. scan-list-lts.spec (
       skip-reads.Asked,
       skip-reads.Learnt,

@@ -1,0 +1,17 @@
+-- `low_mark` meets its contract.
+use mathlib.Core.Path.{refl}
+use native.Mathlib.Omega.{arith}
+use lib.Count.{trailing-le}
+use Rattle.binary.proofs.low_mark.Statement.{statement}
+use Rattle.binary.proofs.low_mark.Tie as tie
+
+cast-result : tie.Need-cast-result
+cast-result c =
+    omega (arith, trailing-le 64 (c .args .marks))
+
+returns : tie.Need-returns
+returns c =
+    (refl, omega (arith, trailing-le 64 (c .args .marks)))
+
+pub low-mark-spec : {M : Type 1} → statement M
+low-mark-spec = tie.close (tie.spec cast-result returns)

@@ -1,0 +1,98 @@
+-- Bytes in a word, lowest first, and a mark in the top bit of each byte of a kind: the marks say where the first one is.
+use mathlib.Core.Path.{_≡_, refl, sym, ap, _∙_}
+use mathlib.Core.Bool.{Bool, true, false, cond}
+use mathlib.Core.List.{List, [], _∷_}
+use Prim.Native.Nat.{ℕ, zero, suc, _+_, _*_, _-_, _/_, _%_, _^_, _≤_, _<_}
+use native.Mathlib.Nat.{add-zero, mul-one}
+use native.Mathlib.Omega.{arith}
+use lib.Bits.{shifted-half, shifted-even}
+use lib.Count.{under, trailingZeros}
+use lib.ListN.{length, getD}
+use Rattle.search.specs.First.{first, firstFrom}
+use Rattle.search.specs.Word.{wordAt, marksAt}
+use Rattle.search.proofs.Laws.{first-here, first-more}
+
+-- n bytes that are all c
+abbrev pub rep : ℕ → ℕ → ℕ
+rep c zero = 0
+rep c (suc n) = rep c n * 256 + c
+
+-- j more than k
+abbrev pub plus : ℕ → ℕ → ℕ
+plus zero k = k
+plus (suc j) k = suc (plus j k)
+
+-- the digits of n bytes
+abbrev pub bitsOf : ℕ → ℕ
+bitsOf zero = 0
+bitsOf (suc n) = plus 8 (bitsOf n)
+
+zeros-shift : (j k a : ℕ) → trailingZeros (plus j k) (a * 2 ^ j) ≡ plus j (trailingZeros k a)
+unfolding trailingZeros
+zeros-shift zero k a = ap (trailingZeros k) (mul-one a)
+zeros-shift (suc j) k a = rw (shifted-even a j, shifted-half a j, zeros-shift j k a)
+
+zeros-none : (k a : ℕ) → trailingZeros (plus 8 k) (a * 256 + 0) ≡ plus 8 (trailingZeros k a)
+zeros-none k a = rw add-zero (zeros-shift 8 k a)
+
+zeros-mark : (k a : ℕ) → trailingZeros (plus 8 k) (a * 256 + 128) ≡ 7
+unfolding trailingZeros
+zeros-mark k a = ap (trailingZeros (plus 8 k)) split ∙ zeros-shift 7 (suc k) (a * 2 + 1) ∙ rw odd
+  where
+    split : a * 256 + 128 ≡ (a * 2 + 1) * 128
+    split = omega arith
+
+    odd : (a * 2 + 1) % 2 ≡ 1
+    odd = omega arith
+
+-- one byte: its mark t, the marks m of the bytes behind it
+module _ (f : ℕ → Bool) (s : List ℕ) (p : ℕ) (h : p < length s) (m : ℕ) where
+  pub none-byte : (t : Bool) → f (getD s p 0) ≡ t → m * 256 + cond t 128 0 ≡ 0 → (m ≡ 0) × (firstFrom f s (p + 1) ≡ firstFrom f s p)
+  none-byte true e z = absurd (omega arith)
+  none-byte false e z = (omega arith, first-more f s p h e)
+
+  pub some-byte : (k : ℕ) (t : Bool) → f (getD s p 0) ≡ t → ((m ≡ 0 → ⊥) → p + 1 + trailingZeros k m / 8 ≡ firstFrom f s (p + 1))
+      → (m * 256 + cond t 128 0 ≡ 0 → ⊥) → p + trailingZeros (plus 8 k) (m * 256 + cond t 128 0) / 8 ≡ firstFrom f s p
+  some-byte k true e r n = rw zeros-mark (add-zero p ∙ first-here f s p h e)
+  some-byte k false e r n = rw zeros-none (place ∙ r (λ z. n (omega arith)) ∙ first-more f s p h e)
+    where
+      place : p + plus 8 (trailingZeros k m) / 8 ≡ p + 1 + trailingZeros k m / 8
+      place = omega arith
+
+module _ (f : ℕ → Bool) (s : List ℕ) where
+  pub marks-none : (n p : ℕ) → p + n ≤ length s → marksAt f n s p ≡ 0 → firstFrom f s (p + n) ≡ firstFrom f s p
+  unfolding marksAt
+  marks-none zero p h e = rw add-zero
+  marks-none (suc n) p h e =
+      let b : (marksAt f n s (p + 1) ≡ 0) × (firstFrom f s (p + 1) ≡ firstFrom f s p) = none-byte f s p (omega arith) _ _ refl e in
+      ap (firstFrom f s) place ∙ marks-none n (p + 1) (omega arith) (b .0) ∙ b .1
+    where
+      place : p + suc n ≡ p + 1 + n
+      place = omega arith
+
+  pub marks-some : (n p : ℕ) → p + n ≤ length s → (marksAt f n s p ≡ 0 → ⊥) → p + trailingZeros (bitsOf n) (marksAt f n s p) / 8 ≡ firstFrom f s p
+  unfolding marksAt
+  marks-some zero p h e = absurd (e refl)
+  marks-some (suc n) p h e = some-byte f s p (omega arith) _ (bitsOf n) _ refl (λ k. marks-some n (p + 1) (omega arith) k) e
+
+-- the lowest mark is one of those there are
+lt-byte : (m k : ℕ) (t : Bool) (n : ℕ) → ((m ≡ 0 → ⊥) → trailingZeros k m / 8 < n) → (m * 256 + cond t 128 0 ≡ 0 → ⊥)
+    → trailingZeros (plus 8 k) (m * 256 + cond t 128 0) / 8 < suc n
+lt-byte m k true n r e = rw zeros-mark (omega arith)
+lt-byte m k false n r e = rw zeros-none (omega (arith, r (λ z. e (omega arith))))
+
+marks-lt : (f : ℕ → Bool) (s : List ℕ) (n p : ℕ) → (marksAt f n s p ≡ 0 → ⊥) → trailingZeros (bitsOf n) (marksAt f n s p) / 8 < n
+unfolding marksAt
+marks-lt f s zero p e = absurd (e refl)
+marks-lt f s (suc n) p e = lt-byte (marksAt f n s (p + 1)) (bitsOf n) (f (getD s p 0)) n (marks-lt f s n (p + 1)) e
+
+-- ---- a word of eight
+module _ (f : ℕ → Bool) (s : List ℕ) (p m : ℕ) (h : p + 8 ≤ length s) (e : m ≡ marksAt f 8 s p) where
+  pub word-none : m ≡ 0 → firstFrom f s (p + 8) ≡ firstFrom f s p
+  word-none z = marks-none f s 8 p h (sym e ∙ z)
+
+  pub word-some : (m ≡ 0 → ⊥) → (k : ℕ) → k ≡ trailingZeros 64 m / 8 → p + k ≡ firstFrom f s p
+  word-some n k t = rw (t, e) (marks-some f s 8 p h (λ z. n (e ∙ z)))
+
+  pub word-lt : (m ≡ 0 → ⊥) → (k : ℕ) → k ≡ trailingZeros 64 m / 8 → k < 8
+  word-lt n k t = rw (t, e) (marks-lt f s 8 p (λ z. n (e ∙ z)))

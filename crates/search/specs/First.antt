@@ -1,0 +1,38 @@
+-- The first byte of a kind, byte by byte, and the kinds that are looked for.
+use Prim.Native.Nat.{ℕ, _+_}
+use mathlib.Core.Bool.{Bool, true, false, cond, not, _||_, _&&_}
+use mathlib.Core.List.{List, [], _∷_}
+use lib.Dec.{eqb, leb}
+use lib.ListN.{drop}
+
+-- the list starts at the place p; the answer is the place of the first byte for which f holds, or the place after the list
+unfoldable pub first : (ℕ → Bool) → ℕ → List ℕ → ℕ
+first f p [] = p
+first f p (b ∷ l) = cond (f b) p (first f (p + 1) l)
+
+unfoldable pub firstFrom : (ℕ → Bool) → List ℕ → ℕ → ℕ
+firstFrom f s p = first f p (drop p s)
+
+-- one byte
+unfoldable pub isByte : ℕ → ℕ → Bool
+isByte c b = eqb b c
+
+-- a quote or a backslash
+unfoldable pub isQuote : ℕ → Bool
+isQuote b = eqb b 34 || eqb b 92
+
+-- no `0` to `9`
+unfoldable pub isOther : ℕ → Bool
+isOther b = not (leb 48 b && leb b 57)
+
+-- no letter
+unfoldable pub noLetter : ℕ → Bool
+noLetter b = not ((leb 65 b && leb b 90) || (leb 97 b && leb b 122))
+
+-- a digit, `_`, `-` or `.`
+unfoldable pub isJoint : ℕ → Bool
+isJoint b = (leb 48 b && leb b 57) || (eqb b 95 || (eqb b 45 || eqb b 46))
+
+-- no letter, digit, `_`, `-` or `.`
+unfoldable pub isEdge : ℕ → Bool
+isEdge b = not (((leb 65 b && leb b 90) || (leb 97 b && leb b 122)) || isJoint b)

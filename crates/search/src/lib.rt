@@ -1,0 +1,296 @@
+// Fast searches in bytes: the first place from a place on with a byte of a kind, or the end. specs/First.antt says what that is, byte by
+// byte. Here eight bytes are read as one number, and long runs are passed by blocks of 32 bytes; specs/Word.antt says how such
+// a number marks its bytes.
+ghost use mathlib.Core.Path.{_≡_};
+ghost use Prim.Native.Nat.{_+_, _*_, _/_, _≤_};
+ghost use lib.ListN.{length};
+ghost use lib.Count.{trailingZeros};
+ghost use lib.Bits.{bitAnd, bitOr};
+ghost use Rattle.search.specs.First.{firstFrom, isByte, isQuote, isOther, noLetter, isJoint, isEdge};
+ghost use Rattle.search.specs.Word.{wordAt, marksAt};
+
+// A byte as a number of 64 bits.
+fn wide(x: u8) -> u64
+    ensures { λ r. ⌜ (r ≡ x) × (r ≤ 255) ⌝ }
+{
+    x as u64
+}
+
+// Eight bytes as one number, lowest first.
+fn word8(s: &[u8], p: usize) -> u64
+    requires { ⌜ p + 8 ≤ length (now s) ⌝ }
+    ensures { λ r. ⌜ r ≡ wordAt 8 (now (s .entry)) p ⌝ }
+{
+    let a = wide(s[p]) + 256 * wide(s[p + 1]) + 65536 * wide(s[p + 2]) + 16777216 * wide(s[p + 3]);
+    let b = wide(s[p + 4])
+        + 256 * wide(s[p + 5])
+        + 65536 * wide(s[p + 6])
+        + 16777216 * wide(s[p + 7]);
+    a + 4294967296 * b
+}
+
+// How many bytes stand before the lowest mark; 8 where there is none.
+fn low_mark(m: u64) -> usize
+    ensures { λ r. ⌜ (r ≡ trailingZeros 64 m / 8) × (r ≤ 8) ⌝ }
+{
+    (u64::trailing_zeros(m) / 8) as usize
+}
+
+// The top bit of each byte that is not 0; the other bits say nothing.
+fn filled(x: u64) -> u64
+    ensures { λ r. ⌜ r ≡ bitOr (bitAnd x 9187201950435737471 + 9187201950435737471) x ⌝ }
+{
+    ((x & 0x7f7f_7f7f_7f7f_7f7f) + 0x7f7f_7f7f_7f7f_7f7f) | x
+}
+
+// A mark in the top bit of each of eight bytes that is `b`.
+fn byte_marks(s: &[u8], p: usize, b: u8) -> u64
+    requires { ⌜ p + 8 ≤ length (now s) ⌝ }
+    ensures { λ r. ⌜ r ≡ marksAt (isByte b) 8 (now (s .entry)) p ⌝ }
+{
+    let w = word8(s, p);
+    let f = filled(w ^ (wide(b) * 0x0101_0101_0101_0101));
+    (f & 0x8080_8080_8080_8080) ^ 0x8080_8080_8080_8080
+}
+
+// A mark in the top bit of each of eight bytes that is a quote or a backslash.
+fn quote_marks(s: &[u8], p: usize) -> u64
+    requires { ⌜ p + 8 ≤ length (now s) ⌝ }
+    ensures { λ r. ⌜ r ≡ marksAt isQuote 8 (now (s .entry)) p ⌝ }
+{
+    let w = word8(s, p);
+    let f = filled(w ^ 0x2222_2222_2222_2222) & filled(w ^ 0x5c5c_5c5c_5c5c_5c5c);
+    (f & 0x8080_8080_8080_8080) ^ 0x8080_8080_8080_8080
+}
+
+// A mark in the top bit of each of eight bytes that is no digit.
+fn other_marks(s: &[u8], p: usize) -> u64
+    requires { ⌜ p + 8 ≤ length (now s) ⌝ }
+    ensures { λ r. ⌜ r ≡ marksAt isOther 8 (now (s .entry)) p ⌝ }
+{
+    let w = word8(s, p);
+    let y = w & 0x7f7f_7f7f_7f7f_7f7f;
+    let from = y + 0x5050_5050_5050_5050;
+    let over = y + 0x4646_4646_4646_4646;
+    let f = from & (over ^ 0xffff_ffff_ffff_ffff) & (w ^ 0xffff_ffff_ffff_ffff);
+    (f & 0x8080_8080_8080_8080) ^ 0x8080_8080_8080_8080
+}
+
+// A mark in the top bit of each of eight bytes that is no letter.
+fn letter_marks(s: &[u8], p: usize) -> u64
+    requires { ⌜ p + 8 ≤ length (now s) ⌝ }
+    ensures { λ r. ⌜ r ≡ marksAt noLetter 8 (now (s .entry)) p ⌝ }
+{
+    let w = word8(s, p);
+    let z = (w & 0x7f7f_7f7f_7f7f_7f7f) | 0x2020_2020_2020_2020;
+    let from = z + 0x1f1f_1f1f_1f1f_1f1f;
+    let over = z + 0x0505_0505_0505_0505;
+    let f = from & ((over | w) ^ 0xffff_ffff_ffff_ffff);
+    (f & 0x8080_8080_8080_8080) ^ 0x8080_8080_8080_8080
+}
+
+// Whether a byte is a quote or a backslash.
+fn is_quote(b: u8) -> bool
+    ensures { λ r. ⌜ r ≡ isQuote b ⌝ }
+{
+    (b == 34) | (b == 92)
+}
+
+// 0 if none of the 32 bytes from `p` on is a quote or a backslash.
+fn quote_in_32(s: &[u8], p: usize) -> u8
+    requires { ⌜ p + 32 ≤ length (now s) ⌝ }
+    ensures { λ r. ⌜ (r ≡ 0 → firstFrom isQuote (now (s .entry)) (p + 32) ≡ firstFrom isQuote (now (s .entry)) p) ⌝ }
+{
+    let mut h: u8 = 0;
+    let mut i: usize = 0;
+    while i < 32 {
+        h = h | is_quote(s[p + i]) as u8;
+        i += 1;
+    }
+    h
+}
+
+// A place from `at` on, behind blocks of 32 bytes that hold no quote and no backslash.
+fn past_unquoted(s: &[u8], at: usize) -> usize
+    ensures { λ r. ⌜ firstFrom isQuote (now (s .entry)) r ≡ firstFrom isQuote (now (s .entry)) at ⌝ }
+{
+    if s.len() < 32 {
+        return at;
+    }
+    let last = s.len() - 32;
+    let mut p = at;
+    while p <= last {
+        if quote_in_32(s, p) != 0 {
+            return p;
+        }
+        p += 32;
+    }
+    p
+}
+
+// As `find_quote`, byte by byte.
+fn quote_bytes(s: &[u8], at: usize) -> usize
+    ensures { λ r. ⌜ r ≡ firstFrom isQuote (now (s .entry)) at ⌝ }
+{
+    let mut p = at;
+    while p < s.len() {
+        if is_quote(s[p]) {
+            return p;
+        }
+        p += 1;
+    }
+    p
+}
+
+// As `find_quote`, by words of eight bytes.
+fn quote_words(s: &[u8], at: usize) -> usize
+    ensures { λ r. ⌜ r ≡ firstFrom isQuote (now (s .entry)) at ⌝ }
+{
+    if s.len() < 8 {
+        return quote_bytes(s, at);
+    }
+    let last = s.len() - 8;
+    let mut p = at;
+    while p <= last {
+        let m = quote_marks(s, p);
+        if m != 0 {
+            return p + low_mark(m);
+        }
+        p += 8;
+    }
+    quote_bytes(s, p)
+}
+
+// The first place from `at` on with a quote or a backslash, or the end; `at` itself where it lies beyond the slice.
+pub fn find_quote(s: &[u8], at: usize) -> usize
+    ensures { λ r. ⌜ r ≡ firstFrom isQuote (now (s .entry)) at ⌝ }
+{
+    quote_words(s, past_unquoted(s, at))
+}
+
+// As `find_byte`, byte by byte.
+fn byte_bytes(s: &[u8], at: usize, b: u8) -> usize
+    ensures { λ r. ⌜ r ≡ firstFrom (isByte b) (now (s .entry)) at ⌝ }
+{
+    let mut p = at;
+    while p < s.len() {
+        if s[p] == b {
+            return p;
+        }
+        p += 1;
+    }
+    p
+}
+
+// The first place from `at` on with the byte `b`, or the end; `at` itself where it lies beyond the slice.
+pub fn find_byte(s: &[u8], at: usize, b: u8) -> usize
+    ensures { λ r. ⌜ r ≡ firstFrom (isByte b) (now (s .entry)) at ⌝ }
+{
+    if s.len() < 8 {
+        return byte_bytes(s, at, b);
+    }
+    let last = s.len() - 8;
+    let mut p = at;
+    while p <= last {
+        let m = byte_marks(s, p, b);
+        if m != 0 {
+            return p + low_mark(m);
+        }
+        p += 8;
+    }
+    byte_bytes(s, p, b)
+}
+
+// Whether a byte is no digit.
+fn is_other(b: u8) -> bool
+    ensures { λ r. ⌜ r ≡ isOther b ⌝ }
+{
+    !((48 <= b) & (b <= 57))
+}
+
+// As `find_other`, byte by byte.
+fn other_bytes(s: &[u8], at: usize) -> usize
+    ensures { λ r. ⌜ r ≡ firstFrom isOther (now (s .entry)) at ⌝ }
+{
+    let mut p = at;
+    while p < s.len() {
+        if is_other(s[p]) {
+            return p;
+        }
+        p += 1;
+    }
+    p
+}
+
+// The first place from `at` on with no digit, or the end; `at` itself where it lies beyond the slice.
+pub fn find_other(s: &[u8], at: usize) -> usize
+    ensures { λ r. ⌜ r ≡ firstFrom isOther (now (s .entry)) at ⌝ }
+{
+    if s.len() < 8 {
+        return other_bytes(s, at);
+    }
+    let last = s.len() - 8;
+    let mut p = at;
+    while p <= last {
+        let m = other_marks(s, p);
+        if m != 0 {
+            return p + low_mark(m);
+        }
+        p += 8;
+    }
+    other_bytes(s, p)
+}
+
+// Whether an unquoted string runs over a byte that is no letter.
+fn is_joint(b: u8) -> bool
+    ensures { λ r. ⌜ r ≡ isJoint b ⌝ }
+{
+    ((48 <= b) & (b <= 57)) | ((b == 95) | ((b == 45) | (b == 46)))
+}
+
+// Whether no unquoted string runs over a byte.
+fn is_edge(b: u8) -> bool
+    ensures { λ r. ⌜ r ≡ isEdge b ⌝ }
+{
+    let letter = ((65 <= b) & (b <= 90)) | ((97 <= b) & (b <= 122));
+    !(letter | is_joint(b))
+}
+
+// As `find_edge`, byte by byte.
+fn edge_bytes(s: &[u8], at: usize) -> usize
+    ensures { λ r. ⌜ r ≡ firstFrom isEdge (now (s .entry)) at ⌝ }
+{
+    let mut p = at;
+    while p < s.len() {
+        if is_edge(s[p]) {
+            return p;
+        }
+        p += 1;
+    }
+    p
+}
+
+// The first place from `at` on with no letter, digit, `_`, `-` or `.`, or the end; `at` itself where it lies beyond the slice. Letters are
+// passed by words of eight.
+pub fn find_edge(s: &[u8], at: usize) -> usize
+    ensures { λ r. ⌜ r ≡ firstFrom isEdge (now (s .entry)) at ⌝ }
+{
+    if s.len() < 8 {
+        return edge_bytes(s, at);
+    }
+    let last = s.len() - 8;
+    let mut p = at;
+    while p <= last {
+        let m = letter_marks(s, p);
+        if m == 0 {
+            p += 8;
+        } else {
+            let q = p + low_mark(m);
+            if !is_joint(s[q]) {
+                return q;
+            }
+            p = q + 1;
+        }
+    }
+    edge_bytes(s, p)
+}
