@@ -19,7 +19,7 @@ use Rattle.reader.specs.declared.Mark.{Mark}
 use Rattle.reader.specs.Fits.{heldOf, fits}
 use Rattle.reader.specs.Meaning.{Done, Handed, handed, ended, Told, told, Looked, looked}
 use Rattle.reader.specs.Calls.{newState, openOf, bufferedOf, offerOf, bufferOf, closeOf, separators, stateAt, skippedOf, readOf, handOut, lookOf, nextBy}
-use Rattle.reader.proofs.Buffer.{pick-case}
+use Rattle.blocks.proofs.Firsts.{pick-case}
 use Rattle.reader.proofs.Shell.{fitting, skipped-fits, within, next-strange, next-looks}
 use Rattle.reader.proofs.Refusing.{no-len, no-low}
 use Rattle.history.specs.Facts.{Slotted, unpassed, HandsOut, progressOf, Progress, HandedOut, Strange}

@@ -19,7 +19,7 @@ use Rattle.blocks.specs.Kept.{blockOf, byteOf, openIn, blocksOf, dueOf, keptDue
 use Rattle.blocks.specs.Moves.{around}
 use Rattle.blocks.specs.declared.Due as declared
 use Rattle.blocks.proofs.Stack.{blocks, open-length, around-is, then-open, then-close, then-keep}
-use Rattle.reader.proofs.Buffer.{pick-case}
+use Rattle.blocks.proofs.Firsts.{pick-case}
 use Rattle.history.specs.Facts.{Slotted}
 
 -- ---- a token's step

@@ -19,8 +19,9 @@ use Rattle.reader.specs.declared.State.{State}
 use Rattle.reader.specs.Fits.{leastBuffer, mostBuffer, mostOffset, heldOf, fits, Fitting}
 use Rattle.reader.specs.Meaning.{Done, done, Told, told, Looked}
 use Rattle.reader.specs.Calls.{openOf, bufferedOf, offerOf, bufferOf, shutState, closeOf, separators, stateAt, skippedOf, readOf, waitOf, handOut, lookOf, nextBy}
-use Rattle.reader.proofs.Buffer.{pick-case, seps-le}
-use Rattle.reader.proofs.Shell.{fitting, within, next-looks}
+use Rattle.blocks.proofs.Firsts.{pick-case}
+use Rattle.reader.proofs.Buffer.{seps-le}
+use Rattle.reader.proofs.Shell.{both, fitting, within, next-looks}
 use Rattle.reader.proofs.Refusing.{by-blocks}
 use Rattle.history.specs.Facts.{Slotted}
 use Rattle.history.proofs.Blocks.{Sound, sound-none}
@@ -39,10 +40,6 @@ kept-fits {s} {n} K =
     let F = K .fit in
     let S = K .sound in
     by-blocks s n (F .len) (F .low) (F .high) (F .order) (F .passed) (F .within) (F .sum) ∙ by-due (s .blocks) (s .place - s .start) (S .top) (S .few) (S .known) ∙ S .due
-
-both : (a b : Bool) → a && b ≡ true → (a ≡ true) × (b ≡ true)
-both true b e = (refl, e)
-both false b e = let z : _≡_ {A = ℕ} 0 1 = cc in absurd (omega arith)
 
 sound : (b : Blocks) (passed : ℕ) → blocksFit b passed ≡ true → Slotted b → Sound b passed
 unfolding blocksFit

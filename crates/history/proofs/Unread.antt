@@ -17,7 +17,8 @@ use Rattle.blocks.specs.Readings.{Reached, Reader, Grows, Onward, onStep, onTok
 use Rattle.reader.specs.declared.State.{State}
 use Rattle.reader.specs.Fits.{fits, Fitting}
 use Rattle.reader.specs.Calls.{bufferedOf, offerOf, bufferOf, closeOf, separators, skippedOf, readOf, handOut, lookOf, nextBy}
-use Rattle.reader.proofs.Buffer.{pick-case, slice-at}
+use Rattle.blocks.proofs.Firsts.{pick-case}
+use Rattle.reader.proofs.Buffer.{slice-at}
 use Rattle.reader.proofs.Shell.{fitting, skipped-fits, within, next-strange, next-looks}
 use Rattle.stream.specs.Interface.{Unread}
 use Rattle.history.specs.History.{takenFrom}

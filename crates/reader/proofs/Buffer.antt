@@ -8,12 +8,8 @@ use native.Mathlib.Omega.{arith}
 use lib.ListN.{length, getD, drop, take, set, take-append-drop}
 use lib.Seq.{slice, slice-cons, slice-empty, length-slice, drop-drop, paste, paste-suc, length-paste-head, getD-append-add, getD-drop, getD-take, take-paste, drop-paste, take-all, take-nil}
 use Rattle.refusal.specs.Paper.{pick}
+use Rattle.blocks.proofs.Firsts.{pick-case}
 use Rattle.reader.specs.Calls.{isSeparator, separators}
-
--- by the test of a pick
-pub pick-case : {A : Type 0} (P : A → Type 0) (t : Bool) (x y : A) → (t ≡ true → P x) → (t ≡ false → P y) → P (pick t x y)
-pick-case P true x y f g = f refl
-pick-case P false x y f g = g refl
 
 pub seps-more : (l : List ℕ) (i to : ℕ) → i < to → to ≤ length l → isSeparator (getD l i 0) ≡ true → i + separators (slice i to l) ≡ i + 1 + separators (slice (i + 1) to l)
 unfolding separators

@@ -19,9 +19,11 @@ use Rattle.reader.specs.declared.State.{State}
 use Rattle.reader.specs.Fits.{leastBuffer, mostBuffer, mostOffset, heldOf, fits, lengthsAgree, lengthInRange, placesInOrder, offsetFits, blocksAgree, Fitting}
 use Rattle.reader.specs.Meaning.{told, looked}
 use Rattle.reader.specs.Calls.{separators, skippedOf, stateAt, bufferedOf, readOf, takenOf, filledBy, offerOf, bufferOf, lookOf, nextBy, Within}
-use Rattle.reader.proofs.Buffer.{pick-case, seps-le}
+use Rattle.blocks.proofs.Firsts.{pick-case}
+use Rattle.reader.proofs.Buffer.{seps-le}
 
-both : (a b : Bool) → a && b ≡ true → (a ≡ true) × (b ≡ true)
+-- two tests that both hold
+pub both : (a b : Bool) → a && b ≡ true → (a ≡ true) × (b ≡ true)
 both true b e = (refl, e)
 both false b e = let z : _≡_ {A = ℕ} 0 1 = cc in absurd (omega arith)
 

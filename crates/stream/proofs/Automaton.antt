@@ -11,7 +11,7 @@ use Rattle.token.specs.declared.Kind.the-variants.{Text, Scalar, OpenList, Clos
 use Rattle.scan.specs.Limit.{mostOpen}
 use Rattle.scan.specs.Step.{Block, list, map, attributes, Due, value, object, item, key, equals, Step, go, finished, wrong, deep, after, closed, opened, onObject, onValue, onItem, onKey, onEquals, endList, endMap, endAttributes, step}
 use Rattle.blocks.specs.Kept.{takes}
-use Rattle.reader.proofs.Buffer.{pick-case}
+use Rattle.blocks.proofs.Firsts.{pick-case}
 
 -- what a token does to the blocks K: one more is open, one fewer, or as many; and the innermost takes what is due then
 pub data Turn (K : List Block) : Step → Type 0 where

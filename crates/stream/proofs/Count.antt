@@ -17,7 +17,7 @@ use Rattle.reader.specs.declared.State.{State}
 use Rattle.reader.specs.Fits.{heldOf, fits, Fitting}
 use Rattle.reader.specs.Meaning.{Handed, handed, looked}
 use Rattle.reader.specs.Calls.{skippedOf, stateAt, bufferedOf, handOut, nextBy}
-use Rattle.reader.proofs.Buffer.{pick-case}
+use Rattle.blocks.proofs.Firsts.{pick-case}
 use Rattle.reader.proofs.Shell.{fitting, skipped-fits, next-looks}
 use Rattle.stream.specs.Interface.{TokenReader}
 use Rattle.stream.specs.Tokens.{Between, nothing, one-passed, record-ended}

@@ -16,7 +16,8 @@ use Rattle.reader.specs.declared.State.{State}
 use Rattle.reader.specs.Fits.{heldOf}
 use Rattle.reader.specs.Meaning.{handed, ended, Looked, looked}
 use Rattle.reader.specs.Calls.{separators, skippedOf, stateAt, bufferedOf, markOf, waitOf, handOut, nextBy, recordOf}
-use Rattle.reader.proofs.Buffer.{pick-case, slice-at}
+use Rattle.blocks.proofs.Firsts.{pick-case}
+use Rattle.reader.proofs.Buffer.{slice-at}
 use Rattle.reader.proofs.Shell.{next-looks}
 use Rattle.stream.specs.Interface.{TokenReader}
 use Rattle.stream.specs.Drive.{Trace, heard, stopped, hearing, afterNext}

@@ -12,7 +12,8 @@ use Rattle.blocks.specs.Kept.{noBlocks}
 use Rattle.reader.specs.declared.State.{State}
 use Rattle.reader.specs.Fits.{leastBuffer, mostBuffer, mostOffset, heldOf, fits, Fitting}
 use Rattle.reader.specs.Calls.{separators, skippedOf, stateAt, bufferedOf, newState, shutState}
-use Rattle.reader.proofs.Buffer.{pick-case, seps-le}
+use Rattle.blocks.proofs.Firsts.{pick-case}
+use Rattle.reader.proofs.Buffer.{seps-le}
 use Rattle.reader.proofs.Refusing.{by-blocks}
 use Rattle.stream.proofs.Open.{Good, good-none, good-fits}
 use Rattle.stream.proofs.Records.{none-behind}
