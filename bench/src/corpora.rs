@@ -31,6 +31,19 @@ pub fn all() -> Vec<Corpus> {
     ]
 }
 
+/// Quoted text whose strings are all of one length, from short to long: what a string
+/// costs, and what a byte of one.
+pub fn by_length() -> Vec<Corpus> {
+    use Format::Text;
+    vec![
+        corpus("strings of 16 bytes", Text, quoted_each::<16>),
+        corpus("strings of 64 bytes", Text, quoted_each::<64>),
+        corpus("strings of 160 bytes", Text, quoted_each::<160>),
+        corpus("strings of 640 bytes", Text, quoted_each::<640>),
+        corpus("strings of 4096 bytes", Text, quoted_each::<4096>),
+    ]
+}
+
 fn corpus(name: &'static str, format: Format, record: fn(&mut To)) -> Corpus {
     let mut to = To {
         bytes: Vec::new(),
@@ -274,6 +287,18 @@ fn quoted(to: &mut To, escapes: bool) {
                 _ => to.put(b"\\177"),
             }
         }
+        to.put(b"\";");
+    }
+    to.put(b"}");
+}
+
+/// A row of quoted strings without escapes, all of one length.
+fn quoted_each<const LENGTH: u64>(to: &mut To) {
+    to.put(b"{");
+    for _ in 0..8 {
+        to.letters(6);
+        to.put(b"=\"");
+        to.letters(LENGTH);
         to.put(b"\";");
     }
     to.put(b"}");

@@ -9,7 +9,7 @@ use std::{
     time::{Duration, Instant},
 };
 
-use corpora::{all, Corpus};
+use corpora::{all, by_length, Corpus};
 use onionsail::Format;
 use oracle::{
     scan::{scan_value, Scan},
@@ -114,27 +114,44 @@ fn main() -> ExitCode {
         }
     }
     let mut corpora = all();
+    let mut lengths = by_length();
     if let Some(name) = only {
+        let names: Vec<&str> = corpora.iter().chain(&lengths).map(|c| c.name).collect();
         corpora.retain(|corpus| corpus.name == name);
-        if corpora.is_empty() {
-            let names: Vec<&str> = all().iter().map(|corpus| corpus.name).collect();
+        lengths.retain(|corpus| corpus.name == name);
+        if corpora.is_empty() && lengths.is_empty() {
             eprintln!("bench: there is no corpus {name}: {}", names.join(", "));
             return ExitCode::from(2);
         }
     }
 
     println!(
-        "Machine: {}. Best of {rounds} rounds by turns; ratio is time of the proved scan by time of the Rust, below 1 is faster.\n",
+        "Machine: {}. Best of {rounds} rounds by turns; ratio is time of the proved scan by time of the Rust, below 1 is faster.",
         std::env::consts::ARCH
     );
-    println!("| corpus | records | bytes a record | Rust MB/s | proved MB/s | ratio |");
+    if !corpora.is_empty() {
+        let Some(mean) = table("corpus", &corpora, rounds) else {
+            return ExitCode::from(2);
+        };
+        println!("| geometric mean | | | | | {mean:.2} |");
+    }
+    if !lengths.is_empty() && table("quoted text by length", &lengths, rounds).is_none() {
+        return ExitCode::from(2);
+    }
+    ExitCode::SUCCESS
+}
+
+/// Prints a table of some corpora and gives the ratios' geometric mean, or nothing where
+/// the two sides do not find the same records.
+fn table(title: &str, corpora: &[Corpus], rounds: u32) -> Option<f64> {
+    println!("\n| {title} | records | bytes a record | Rust MB/s | proved MB/s | ratio |");
     println!("|---|---|---|---|---|---|");
     let mut logs = 0.0;
-    for corpus in &corpora {
+    for corpus in corpora {
         let (records, sum) = pass(corpus, original);
         if (records, sum) != pass(corpus, proved) {
             eprintln!("bench: the two sides differ on corpus {}", corpus.name);
-            return ExitCode::from(2);
+            return None;
         }
         let [old, new] = measure(corpus, rounds);
         let ratio = new.as_secs_f64() / old.as_secs_f64();
@@ -147,9 +164,5 @@ fn main() -> ExitCode {
             megabytes_a_second(corpus, new),
         );
     }
-    println!(
-        "| geometric mean | | | | | {:.2} |",
-        (logs / corpora.len() as f64).exp()
-    );
-    ExitCode::SUCCESS
+    Some((logs / corpora.len() as f64).exp())
 }

@@ -1,6 +1,7 @@
 //! How fast is the stream reader beside the Rust's framing? Program `records` against a twin on the oracle's framing, each a process of
 //! its own over the same file; and the reader alone, by program `deliveries`, against the framing in this process.
 
+#[allow(dead_code)] // the table by length is the other program's
 #[path = "../corpora.rs"]
 mod corpora;
 

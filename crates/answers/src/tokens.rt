@@ -17,8 +17,8 @@ fn put_extent(out: &mut [u8], n: usize, word: &[u8], start: usize, len: usize) -
     output::put_decimal(out, c, len as u64)
 }
 
-// A token, without its places.
-fn put_token(out: &mut [u8], n: usize, token: Token) -> usize {
+// A token of one byte.
+fn put_mark(out: &mut [u8], n: usize, token: Token) -> usize {
     match token {
         Token::BeginAttributes => output::put_word(out, n, b"<"),
         Token::EndAttributes => output::put_word(out, n, b">"),
@@ -26,25 +26,42 @@ fn put_token(out: &mut [u8], n: usize, token: Token) -> usize {
         Token::EndList => output::put_word(out, n, b"]"),
         Token::BeginMap => output::put_word(out, n, b"{"),
         Token::EndMap => output::put_word(out, n, b"}"),
-        Token::String { start, len } => put_extent(out, n, b"string ", start, len),
-        Token::Escaped { start, len } => put_extent(out, n, b"escaped ", start, len),
-        Token::Int64(v) => {
-            let a = output::put_word(out, n, b"int64 ");
-            text::put_signed(out, a, v)
-        }
-        Token::Uint64(v) => {
-            let a = output::put_word(out, n, b"uint64 ");
-            output::put_decimal(out, a, v)
-        }
-        Token::Double { value: _, bits } => {
-            let a = output::put_word(out, n, b"double ");
-            text::put_bits(out, a, bits)
-        }
-        Token::Decimal { start, len } => put_extent(out, n, b"decimal ", start, len),
-        Token::Boolean(q) => put_boolean(out, n, q),
         Token::Entity => output::put_word(out, n, b"#"),
         Token::KeyValueSeparator => output::put_word(out, n, b"="),
         Token::ItemSeparator => output::put_word(out, n, b";"),
+        _ => output::put_word(out, n, b"no mark"),
+    }
+}
+
+// A number that is not below nought, behind its word.
+fn put_number(out: &mut [u8], n: usize, word: &[u8], v: u64) -> usize {
+    let a = output::put_word(out, n, word);
+    output::put_decimal(out, a, v)
+}
+
+// A signed number, behind its word.
+fn put_int64(out: &mut [u8], n: usize, v: i64) -> usize {
+    let a = output::put_word(out, n, b"int64 ");
+    text::put_signed(out, a, v)
+}
+
+// A double by its bits, behind its word.
+fn put_double(out: &mut [u8], n: usize, bits: u64) -> usize {
+    let a = output::put_word(out, n, b"double ");
+    text::put_bits(out, a, bits)
+}
+
+// A token, without its places.
+fn put_token(out: &mut [u8], n: usize, token: Token) -> usize {
+    match token {
+        Token::String { start, len } => put_extent(out, n, b"string ", start, len),
+        Token::Escaped { start, len } => put_extent(out, n, b"escaped ", start, len),
+        Token::Int64(v) => put_int64(out, n, v),
+        Token::Uint64(v) => put_number(out, n, b"uint64 ", v),
+        Token::Double { value: _, bits } => put_double(out, n, bits),
+        Token::Decimal { start, len } => put_extent(out, n, b"decimal ", start, len),
+        Token::Boolean(q) => put_boolean(out, n, q),
+        _ => put_mark(out, n, token),
     }
 }
 
@@ -79,7 +96,7 @@ pub fn token(payload: &[u8], format: Format, out: &mut [u8], n: usize) -> usize 
     if 65540 < payload.len() {
         return output::put_word(out, n, b"too long\n");
     }
-    let found = cursor::token_at(&payload[4..], read::little4(payload, 0), format);
+    let found = lookup::token_at(&payload[4..], read::little4(payload, 0), format);
     let a = put_read(out, n, found);
     text::put_newline(out, a)
 }
@@ -122,7 +139,7 @@ fn string_into(payload: &[u8], format: Format, area: &mut [u8], out: &mut [u8], 
         return output::put_word(out, n, b"too long\n");
     }
     clear(area, room);
-    let found = lexer::string_bytes(
+    let found = lookup::string_at(
         &payload[8..],
         read::little4(payload, 0),
         format,

@@ -8,6 +8,42 @@ use varint::Uvarint;
 use varint::Varint;
 use varint::Written;
 
+// `value V NEXT` of a number that is not below nought.
+fn put_value(out: &mut [u8], n: usize, value: u64, next: usize) -> usize {
+    let a = output::put_word(out, n, b"value ");
+    let b = output::put_decimal(out, a, value);
+    let c = output::put_word(out, b, b" ");
+    output::put_decimal(out, c, next as u64)
+}
+
+// The same of a signed number.
+fn put_signed_value(out: &mut [u8], n: usize, value: i64, next: usize) -> usize {
+    let a = output::put_word(out, n, b"value ");
+    let b = text::put_signed(out, a, value);
+    let c = output::put_word(out, b, b" ");
+    output::put_decimal(out, c, next as u64)
+}
+
+// What reading an unsigned varint answered.
+fn put_unsigned_answer(out: &mut [u8], n: usize, answer: Uvarint) -> usize {
+    match answer {
+        Uvarint::Value { value, next } => put_value(out, n, value, next),
+        Uvarint::More => output::put_word(out, n, b"more"),
+        Uvarint::Refused { refusal } => text::put_refusal(out, n, refusal),
+        Uvarint::Beyond => text::put_cause(out, n, Cause::BeyondSlice),
+    }
+}
+
+// What reading a signed varint answered.
+fn put_signed_answer(out: &mut [u8], n: usize, answer: Varint) -> usize {
+    match answer {
+        Varint::Value { value, next } => put_signed_value(out, n, value, next),
+        Varint::More => output::put_word(out, n, b"more"),
+        Varint::Refused { refusal } => text::put_refusal(out, n, refusal),
+        Varint::Beyond => text::put_cause(out, n, Cause::BeyondSlice),
+    }
+}
+
 // Kind 3: `value V NEXT`, `more`, `refused NO PLACE` or `refused 26`.
 pub fn read_unsigned(payload: &[u8], out: &mut [u8], n: usize) -> usize {
     if payload.len() < 4 {
@@ -16,24 +52,9 @@ pub fn read_unsigned(payload: &[u8], out: &mut [u8], n: usize) -> usize {
     if 65540 < payload.len() {
         return output::put_word(out, n, b"too long\n");
     }
-    match varint::read_uvarint(&payload[4..], read::little4(payload, 0)) {
-        Uvarint::Value { value, next } => {
-            let a = output::put_word(out, n, b"value ");
-            let b = output::put_decimal(out, a, value);
-            let c = output::put_word(out, b, b" ");
-            let d = output::put_decimal(out, c, next as u64);
-            text::put_newline(out, d)
-        }
-        Uvarint::More => output::put_word(out, n, b"more\n"),
-        Uvarint::Refused { refusal } => {
-            let a = text::put_refusal(out, n, refusal);
-            text::put_newline(out, a)
-        }
-        Uvarint::Beyond => {
-            let a = text::put_cause(out, n, Cause::BeyondSlice);
-            text::put_newline(out, a)
-        }
-    }
+    let found = varint::read_uvarint(&payload[4..], read::little4(payload, 0));
+    let a = put_unsigned_answer(out, n, found);
+    text::put_newline(out, a)
 }
 
 // Kind 4: the same of a signed varint.
@@ -44,24 +65,9 @@ pub fn read_signed(payload: &[u8], out: &mut [u8], n: usize) -> usize {
     if 65540 < payload.len() {
         return output::put_word(out, n, b"too long\n");
     }
-    match varint::read_varint(&payload[4..], read::little4(payload, 0)) {
-        Varint::Value { value, next } => {
-            let a = output::put_word(out, n, b"value ");
-            let b = text::put_signed(out, a, value);
-            let c = output::put_word(out, b, b" ");
-            let d = output::put_decimal(out, c, next as u64);
-            text::put_newline(out, d)
-        }
-        Varint::More => output::put_word(out, n, b"more\n"),
-        Varint::Refused { refusal } => {
-            let a = text::put_refusal(out, n, refusal);
-            text::put_newline(out, a)
-        }
-        Varint::Beyond => {
-            let a = text::put_cause(out, n, Cause::BeyondSlice);
-            text::put_newline(out, a)
-        }
-    }
+    let found = varint::read_varint(&payload[4..], read::little4(payload, 0));
+    let a = put_signed_answer(out, n, found);
+    text::put_newline(out, a)
 }
 
 // `wrote COUNT BYTES` or `refused 27 BYTES`.

@@ -1,15 +1,13 @@
 // A cursor for callers that walk the tokens of a record: its bytes, a place in them and their format.
 // Each method takes the cursor apart and calls a function on the bytes and the place; what a token is, is crate lexer's to say.
-// specs/Cursor.antt says what a peek answers, and specs/Count.antt how tokens are counted.
+// specs/Cursor.antt says what a peek answers. A function that holds a cursor is proved by hand; crate lookup has the calls with plain parameters.
 ghost use mathlib.Core.Path.{_≡_};
 ghost use lib.ListN.{length};
 ghost use Rattle.token.specs.Meaning.{readMeaning};
 ghost use Rattle.token.specs.Strings.{unescapedMeaning, bytesAnswer, bytesWritten};
 ghost use Rattle.lexer.specs.Lexer.{tokenAt, stringAt};
 ghost use Rattle.cursor.specs.Cursor.{peekMeaning, byteAt};
-ghost use Rattle.cursor.specs.Count.{countMeaning, countOf};
 use refusal::Format;
-use refusal::Refusal;
 use token::Read;
 use token::Unescaped;
 
@@ -27,21 +25,6 @@ pub enum Peek {
     Incomplete,
     // 26: the place lies beyond the slice.
     Beyond,
-}
-
-// How many tokens stand in some bytes.
-pub enum Count {
-    // So many, the last of which ends at `end`. Behind it the bytes end, or end inside a token.
-    Tokens {
-        count: usize,
-        end: usize,
-    },
-    // So many, the last of which ends at `end`. Behind it stands what is no token.
-    Refused {
-        count: usize,
-        end: usize,
-        refusal: Refusal,
-    },
 }
 
 impl<'a> YsonIterator<'a> {
@@ -85,7 +68,7 @@ impl<'a> YsonIterator<'a> {
     pub fn peek_byte(self) -> Peek
         ensures { λ r. ⌜ peekMeaning r ≡ byteAt (self .entry .format) (now (self .entry .input)) (self .entry .pos) ⌝ }
     {
-        peek_at(self.input, self.pos, self.format)
+        first_byte(self.input, self.pos, self.format)
     }
 
     // The bytes of the string at the place of the cursor, into `out`. Only an accepted call writes.
@@ -98,7 +81,7 @@ impl<'a> YsonIterator<'a> {
 }
 
 // The first byte from a place on that is not ignored.
-pub fn peek_at(input: &[u8], at: usize, format: Format) -> Peek
+fn first_byte(input: &[u8], at: usize, format: Format) -> Peek
     ensures { λ r. ⌜ peekMeaning r ≡ byteAt format (now (input .entry)) at ⌝ }
 {
     if input.len() < at {
@@ -112,39 +95,4 @@ pub fn peek_at(input: &[u8], at: usize, format: Format) -> Peek
         };
     }
     Peek::Incomplete
-}
-
-// The token at a place, read by a cursor: for callers that hold no cursor themselves.
-pub fn token_at(input: &[u8], pos: usize, format: Format) -> Read
-    ensures { λ r. ⌜ readMeaning r ≡ tokenAt format (now (input .entry)) pos ⌝ }
-{
-    YsonIterator::new(input, format).moved(pos).next_token()
-}
-
-// Walks the tokens from the first byte on, until the bytes end or what stands there is no token, and counts them.
-pub fn count_tokens(input: &[u8], format: Format) -> Count
-    ensures { λ r. ⌜ countMeaning r ≡ countOf format (now (input .entry)) ⌝ }
-{
-    let mut count = 0usize;
-    let mut end = 0usize;
-    while end < input.len() {
-        match token_at(input, end, format) {
-            Read::Token {
-                token: _,
-                first: _,
-                next,
-            } => {
-                count += 1;
-                end = next;
-            }
-            Read::Incomplete => return Count::Tokens { count, end },
-            Read::Refused { refusal } => return Count::Refused {
-                count,
-                end,
-                refusal,
-            },
-            Read::Beyond => return Count::Tokens { count, end },
-        }
-    }
-    Count::Tokens { count, end }
 }

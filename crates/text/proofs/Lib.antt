@@ -1,3 +1,4 @@
 -- Laws of text tokens.
 pub mod Laws
 pub mod Callers
+pub mod Single

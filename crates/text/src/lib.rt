@@ -1,12 +1,14 @@
 // Text tokens: what stands at this place, behind blanks and comments, and where does it end?
 // The definition is `textFrom` (specs/Text.antt): the first byte says which of the readers below is asked.
 ghost use mathlib.Core.Path.{_≡_};
+ghost use mathlib.Core.Bool.{true};
 ghost use Prim.Native.Nat.{_+_, _<_};
 ghost use lib.ListN.{length, getD};
 ghost use Rattle.token.specs.Meaning.{readMeaning, kindsOf};
 ghost use Rattle.token.specs.Marks.{markOf, ofMark};
-ghost use Rattle.token.specs.Ends.{stringEnd, scalarEnd};
+ghost use Rattle.token.specs.Ends.{endOf, stringEnd, scalarEnd};
 ghost use Rattle.token.specs.Strings.{unescapedMeaning, bytesAnswer, bytesWritten};
+ghost use Rattle.number.specs.Number.{numberAt};
 ghost use Rattle.text.specs.Text.{startsNumber, startsPlain, plainAt, started, startedAt, textFrom, textAt};
 ghost use Rattle.text.specs.Strings.{stringStartedAt, textStringAt};
 use refusal::Refusal;
@@ -123,6 +125,39 @@ fn first_string_end(input: &[u8], p: usize) -> usize
     0
 }
 
+// Whether one digit and then a `;` stand at `p`: a whole number, and the commonest of lists of flags and counts.
+fn one_digit(input: &[u8], p: usize) -> bool
+    ensures { λ r. ⌜ (r ≡ true → (p < length (now (input .entry))) × (p + 1 ≡ endOf (numberAt (now (input .entry)) p))) ⌝ }
+{
+    if input.len() <= p {
+        return false;
+    }
+    if input.len() - p < 2 {
+        return false;
+    }
+    if input[p + 1] != b';' {
+        return false;
+    }
+    let b = input[p];
+    if b < b'0' {
+        return false;
+    }
+    if b'9' < b {
+        return false;
+    }
+    true
+}
+
+// The place after the number whose first byte stands at `p`; 0 where no whole one does.
+fn first_number_end(input: &[u8], p: usize) -> usize
+    ensures { λ r. ⌜ r ≡ endOf (numberAt (now (input .entry)) p) ⌝ }
+{
+    if one_digit(input, p) {
+        return p + 1;
+    }
+    number::number_end(input, p)
+}
+
 // The same of a string or another scalar, whose value is not asked for.
 fn first_scalar_end(input: &[u8], p: usize) -> usize
     ensures { λ r. ⌜ r ≡ scalarEnd (kindsOf (startedAt (now (input .entry)) p)) ⌝ }
@@ -138,7 +173,7 @@ fn first_scalar_end(input: &[u8], p: usize) -> usize
         return words::word_end(input, p);
     }
     if starts_number(b) {
-        return number::number_end(input, p);
+        return first_number_end(input, p);
     }
     if starts_plain(b) {
         return words::plain_end(input, p);

@@ -123,17 +123,25 @@ fn read_signed(bytes: &[u8]) {
     }
 }
 
-// A scan of some bytes.
-fn scanned(bytes: &[u8], format: Format) {
-    match scan::scan_value(bytes, format) {
-        Scan::Complete { len } => {
-            say(b"length ");
-            say_number(len);
-            say(b"\n");
-        }
+// A record's length.
+fn say_length(len: usize) {
+    say(b"length ");
+    say_number(len);
+    say(b"\n");
+}
+
+// What the scan answers.
+fn say_scan(answer: Scan) {
+    match answer {
+        Scan::Complete { len } => say_length(len),
         Scan::Incomplete => say(b"incomplete\n"),
         Scan::Refused { refusal } => say_refusal(refusal),
     }
+}
+
+// A scan of some bytes.
+fn scanned(bytes: &[u8], format: Format) {
+    say_scan(scan::scan_value(bytes, format));
 }
 
 // A scan of some text, which is shown.

@@ -9,6 +9,7 @@ use reader::Mark;
 use reader::Opening;
 use reader::State;
 use reader::Taking;
+use refusal::Refusal;
 
 fn say_offset(n: u64) {
     io::print_decimal(STDOUT_FILENO, n);
@@ -66,37 +67,48 @@ fn show_values(number: usize, offset: u64, value: usize) {
     say_number(value);
 }
 
-// What next answers.
-fn show_found(answer: Found, readings: usize, buf: &[u8]) {
-    say(b"next : ");
+// A record that next hands out, with its bytes.
+fn show_record(buf: &[u8], place: usize, len: usize, offset: u64, mark: Mark) {
+    say(b"record at ");
+    say_number(place);
+    say(b" length ");
+    say_number(len);
+    say(b" offset ");
+    say_offset(offset);
+    show_mark(mark);
+    say(b":");
+    say_hex(reader::record(buf, place, len));
+}
+
+// What the scan refused of a record, and where.
+fn show_malformed(offset: u64, refusal: Refusal) {
+    show_values(refusal::MALFORMED_RECORD, offset, refusal.number());
+    say(b" at ");
+    say_number(refusal.place());
+}
+
+// What next answers, without its count.
+fn show_answer(answer: Found, buf: &[u8]) {
     match answer {
         Found::Record {
             place,
             length,
             offset,
             mark,
-        } => {
-            say(b"record at ");
-            say_number(place);
-            say(b" length ");
-            say_number(length);
-            say(b" offset ");
-            say_offset(offset);
-            show_mark(mark);
-            say(b":");
-            say_hex(reader::record(buf, place, length));
-        }
-        Found::Malformed { offset, refusal } => {
-            show_values(refusal::MALFORMED_RECORD, offset, refusal.number());
-            say(b" at ");
-            say_number(refusal.place());
-        }
+        } => show_record(buf, place, length, offset, mark),
+        Found::Malformed { offset, refusal } => show_malformed(offset, refusal),
         Found::TooLong { offset, len } => show_values(refusal::RECORD_TOO_LONG, offset, len),
         Found::CutShort { offset, held } => show_values(refusal::CUT_SHORT, offset, held),
         Found::StrangeState => say_refused(refusal::STRANGE_STATE),
         Found::End => say(b"end"),
         Found::More => say(b"more"),
     }
+}
+
+// What next answers.
+fn show_found(answer: Found, readings: usize, buf: &[u8]) {
+    say(b"next : ");
+    show_answer(answer, buf);
     say(b", readings ");
     say_number(readings);
     say(b"\n");

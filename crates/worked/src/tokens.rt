@@ -1,4 +1,5 @@
 // The tokens of a record, walked by the cursor, how many there are, and what stands at a place.
+ghost use mathlib.Core.Path.{_≡_};
 use crate::say;
 use crate::say_bytes;
 use crate::say_cause;
@@ -6,9 +7,10 @@ use crate::say_kind;
 use crate::say_number;
 use crate::say_refusal;
 use crate::wide;
-use cursor::Count;
 use cursor::Peek;
+use cursor::YsonIterator;
 use libc::STDOUT_FILENO;
+use lookup::Count;
 use refusal::Cause;
 use refusal::Format;
 use token::Kind;
@@ -57,7 +59,7 @@ fn say_token(token: Token) {
 fn say_tokens(bytes: &[u8], format: Format) {
     let mut at = 0;
     while at < bytes.len() {
-        match cursor::token_at(bytes, at, format) {
+        match lookup::token_at(bytes, at, format) {
             Read::Token { token, first, next } => {
                 say_token(token);
                 say(b" at ");
@@ -76,7 +78,7 @@ fn say_tokens(bytes: &[u8], format: Format) {
 
 // How many they are.
 fn say_count(bytes: &[u8], format: Format) {
-    match cursor::count_tokens(bytes, format) {
+    match lookup::count_tokens(bytes, format) {
         Count::Tokens { count, end } => {
             say_number(count);
             say(b" tokens to ");
@@ -111,13 +113,20 @@ fn binary_tokens(bytes: &[u8]) {
     say_count(bytes, Format::Binary);
 }
 
+// Where a cursor stands that was moved to a place.
+fn standing(bytes: &[u8], at: usize, format: Format) -> usize
+    ensures { λ r. ⌜ r ≡ at ⌝ }
+{
+    YsonIterator::new(bytes, format).moved(at).pos()
+}
+
 // The first byte of some text from a place on that is not ignored.
 fn peek(bytes: &[u8], at: usize) {
     say(bytes);
     say(b" from ");
-    say_number(at);
+    say_number(standing(bytes, at, Format::Text));
     say(b" : ");
-    match cursor::peek_at(bytes, at, Format::Text) {
+    match lookup::peek_at(bytes, at, Format::Text) {
         Peek::Byte { byte, place } => {
             io::print_hex(STDOUT_FILENO, wide(byte), 2);
             say(b" at ");

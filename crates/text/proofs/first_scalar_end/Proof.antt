@@ -47,15 +47,15 @@ returns-3 c =
 starts-number-requires : tie.Need-starts-number-requires
 starts-number-requires c κs = search needs
 
-number-end-requires : tie.Need-number-end-requires
-number-end-requires c κs = search needs
+first-number-end-requires : tie.Need-first-number-end-requires
+first-number-end-requires c κs = search needs
 
 returns-4 : tie.Need-returns-4
 returns-4 c =
     let x = c .before .before .before .before .before .before .before .before .args in
     let s = now (x .input) in
     let b = getD s (x .p) 0 in
-    c .number-end .ensures ∙ number-scalar-end s (x .p)
+    c .first-number-end .ensures ∙ number-scalar-end s (x .p)
     ∙ sym
     (ap (λ (q : Paper (Spot Token)). scalarEnd (kindsOf q))
     (something-started s (x .p) (omega arith) ∙ is-number s (x .p) b (c .before .before .before .before .if2 .left) (c .before .before .before .if3 .left) (sym (c .before .before .starts-number .ensures) ∙ c .before .if4 .taken)))
@@ -112,7 +112,7 @@ first-scalar-end-spec =
     word-end-requires
     returns-3
     starts-number-requires
-    number-end-requires
+    first-number-end-requires
     returns-4
     starts-plain-requires
     plain-end-requires

@@ -22,26 +22,26 @@ returns c = search needs
 clear-requires : tie.Need-clear-requires
 clear-requires c κs = search needs
 
-sub-string-bytes : tie.Need-sub-string-bytes
-sub-string-bytes c = search needs
+sub-string-at : tie.Need-sub-string-at
+sub-string-at c = search needs
 
-part-string-bytes-start : tie.Need-part-string-bytes-start
-part-string-bytes-start c = search needs
+part-string-at-start : tie.Need-part-string-at-start
+part-string-at-start c = search needs
 
-part-string-bytes-end : tie.Need-part-string-bytes-end
-part-string-bytes-end c = search needs
+part-string-at-end : tie.Need-part-string-at-end
+part-string-at-end c = search needs
 
 little4-requires-2 : tie.Need-little4-requires-2
 little4-requires-2 c κs = search needs
 
-slice-relend-prefix-string-bytes : tie.Need-slice-relend-prefix-string-bytes
-slice-relend-prefix-string-bytes c = search needs
+slice-relend-prefix-string-at : tie.Need-slice-relend-prefix-string-at
+slice-relend-prefix-string-at c = search needs
 
-slice-aggregate-string-bytes : tie.Need-slice-aggregate-string-bytes
-slice-aggregate-string-bytes c = simp length-take (omega arith)
+slice-aggregate-string-at : tie.Need-slice-aggregate-string-at
+slice-aggregate-string-at c = simp length-take (omega arith)
 
-string-bytes-requires : tie.Need-string-bytes-requires
-string-bytes-requires c κs = search needs
+string-at-requires : tie.Need-string-at-requires
+string-at-requires c κs = search needs
 
 put-unescaped-requires : tie.Need-put-unescaped-requires
 put-unescaped-requires c κs = search needs
@@ -83,13 +83,13 @@ string-into-spec =
     same-length
     returns
     clear-requires
-    sub-string-bytes
-    part-string-bytes-start
-    part-string-bytes-end
+    sub-string-at
+    part-string-at-start
+    part-string-at-end
     little4-requires-2
-    slice-relend-prefix-string-bytes
-    slice-aggregate-string-bytes
-    string-bytes-requires
+    slice-relend-prefix-string-at
+    slice-aggregate-string-at
+    string-at-requires
     put-unescaped-requires
     slice-aggregate-put-word-2
     put-word-requires-2

@@ -1,4 +1,4 @@
--- `YsonIterator::peek_byte` meets its contract: a walk of its MIR, by hand. The cursor is taken apart, and `peek_at` is called on its fields. All that the proof knows of that is that it meets its contract.
+-- `YsonIterator::peek_byte` meets its contract: a walk of its MIR, by hand. The cursor is taken apart, and `first_byte` is called on its fields. All that the proof knows of that is that it meets its contract.
 -- The cursor is Copy: what it owns is had twice, and one copy is kept whole for the exit. The callee takes the fields in their order and nothing else, so what the fields own together is what it asks. The lifetime's token goes to it, and comes back.
 use mathlib.Core.Path.{_≡_, refl}
 use mathlib.Core.List.{[], _∷_}
@@ -42,10 +42,10 @@ use denote.Exit.{yes}
 use denote.Triple.Clauses.{ensured, lasts}
 use Rattle.refusal.proofs.Format as F
 use Rattle.refusal.proofs.Format.Laws as F′
-use Rattle.cursor.proofs.peek_at as callee
-use Rattle.cursor.proofs.peek_at.Symbol as callee-def
-use Rattle.cursor.proofs.peek_at.Symbol.{name as #cursor·peek-at}
-use Rattle.cursor.proofs.peek_at.Met as callee-thm
+use Rattle.cursor.proofs.first_byte as callee
+use Rattle.cursor.proofs.first_byte.Symbol as callee-def
+use Rattle.cursor.proofs.first_byte.Symbol.{name as #cursor·first-byte}
+use Rattle.cursor.proofs.first_byte.Met as callee-thm
 use Rattle.cursor.specs.Cursor.{peekMeaning, byteAt}
 use Rattle.cursor.specs.declared.YsonIterator.{YsonIterator}
 use Rattle.cursor.specs.declared.Peek.{Peek}
@@ -128,7 +128,7 @@ module _ {M : Type 1} (𝓤 : URA M) (H : Heap 𝓤) (A : Atoms 𝓤) (W : Given
       suffices ! _ (ends-at 𝓤 H A peek-byte.ended stayed (peek-byte.clauses 𝓤 H A mem run) W ((κs, (q, tt), tt, (d, tt), (mach ∷ [], tt)), tt) u r (tt, tt) (tt, tt)) $ says ! e $
       move ! (1 ∷ []) $ frame ! $ nothing ! $ move ! (2 ∷ 0 ∷ []) $ fjoin ! $ frame ! $ done !
 
-  module _ (C : Calls 𝓤 H) (Λ : Loops 𝓤 H) (fm : FmC 𝓤 H (W .laws) C) (known : Triple 𝓤 (C #cursor·peek-at) (Callee 𝓤 H A mem run)) where
+  module _ (C : Calls 𝓤 H) (Λ : Loops 𝓤 H) (fm : FmC 𝓤 H (W .laws) C) (known : Triple 𝓤 (C #cursor·first-byte) (Callee 𝓤 H A mem run)) where
     walk : Typed (hasTy (T′.mir (named 0)) mach) × WT mach → Typed (hasTy F′.mir fv) × WT fv → ent 𝓤 (onEntry 𝓤 H A peek-byte.signature κs (q, tt) (d, tt) (mach ∷ [], tt)) (WpFn 𝓤 H C Λ code.function (mach ∷ []) Post)
     walk wt wf =
         qed W (raw (onEntry 𝓤 H A peek-byte.signature κs (q, tt) (d, tt) (mach ∷ [], tt)) ∷ []) ∵ enter ! C Λ code.function (mach ∷ []) _ $
@@ -148,13 +148,13 @@ module _ {M : Type 1} (𝓤 : URA M) (H : Heap 𝓤) (A : Atoms 𝓤) (W : Given
         move ! (11 ∷ 12 ∷ []) $ free1 ! $ move ! (9 ∷ 10 ∷ []) $ free1 ! $ move ! (7 ∷ 8 ∷ []) $ free1 ! $ move ! (5 ∷ 6 ∷ []) $ free1 ! $ move ! (3 ∷ 4 ∷ []) $ free1 ! $ free0 ! $ by ! (exits r u e))))))))))
 
 module _ {M : Type 1} (𝓤 : URA M) (H : Heap 𝓤) (A : Atoms 𝓤) (W : Given 𝓤 H A) (mem : Memory → SProp 𝓤) (run : Routine → Fun 𝓤) where
-  peek-byte-walks : (C : Calls 𝓤 H) (Λ : Loops 𝓤 H) → FmC 𝓤 H (W .laws) C → Triple 𝓤 (C #cursor·peek-at) (Callee 𝓤 H A mem run)
+  peek-byte-walks : (C : Calls 𝓤 H) (Λ : Loops 𝓤 H) → FmC 𝓤 H (W .laws) C → Triple 𝓤 (C #cursor·first-byte) (Callee 𝓤 H A mem run)
       → Walks 𝓤 H A peek-byte.ended stayed (WpFn 𝓤 H C Λ code.function) (peek-byte.clauses 𝓤 H A mem run)
   peek-byte-walks C Λ fm known = walked 𝓤 H A peek-byte.ended stayed (peek-byte.clauses 𝓤 H A mem run) (WpFn 𝓤 H C Λ code.function) (λ κs. (LL.vals (D κs) (L κs), tt)) (λ κs. (LL.tells (D κs) (L κs), tt))
       (λ κs qs bounds a g are. via 𝓤 _ (fst∗ 𝓤 _ (emp 𝓤)) (walk 𝓤 H A W mem run (κs .0) (qs .0) (a .0) C Λ fm known (LL.lawful (D κs) (L κs) 𝓤 H A W .typed (a .0) _ (are .0) .0) (EL.lawful F.the-type F′.the-laws 𝓤 H A W tt .typed (a .0 .format) _ (LL.owed (D κs) (L κs) (a .0) _ (are .0) .1 .1 .0) .0)))
 
 peek-byte-meets : {M : Type 1} (𝓤 : URA M) (H : Heap 𝓤) (A : Atoms 𝓤) (W : Given 𝓤 H A) (mem : Memory → SProp 𝓤) (run : Routine → Fun 𝓤) (𝓣 : Tables 𝓤 H)
-    → Triple 𝓤 (𝓣 .C #cursor·peek-at) (Callee 𝓤 H A mem run)
+    → Triple 𝓤 (𝓣 .C #cursor·first-byte) (Callee 𝓤 H A mem run)
     → Meets 𝓤 H A peek-byte.signature (WpFn 𝓤 H (𝓣 .C) (𝓣 .Λ) code.function) (peek-byte.spec 𝓤 H A mem run)
 peek-byte-meets 𝓤 H A W mem run 𝓣 known = walk-meets 𝓤 H A peek-byte.ended stayed W (goes-none 𝓤 H A W 1 B yes (λ κs x f. refl), tt) (peek-byte.clauses 𝓤 H A mem run) (WpFn 𝓤 H (𝓣 .C) (𝓣 .Λ) code.function) (WpFn-mono 𝓤 H (W .laws) 𝓣 code.function)
     (peek-byte-walks 𝓤 H A W mem run (𝓣 .C) (𝓣 .Λ) (fmOf 𝓤 H (W .laws) 𝓣) known)
@@ -165,4 +165,4 @@ peek-byte-spec 𝓤 H 𝓜 𝓖 𝓡 =
     entered 𝓤 H (tripleOf 𝓤 H (𝓖 .A) peek-byte.signature (peek-byte.spec 𝓤 H (𝓖 .A) (𝓜 .mem) (𝓡 .run)))
     (tables 𝓤 H 𝓜 𝓡 code.env .C) (tables 𝓤 H 𝓜 𝓡 code.env .Λ) #cursor·peek-byte code.function (code.unfolded 𝓤 H 𝓜 𝓡)
     (peek-byte-meets 𝓤 H (𝓖 .A) (givenOf 𝓤 H 𝓜 𝓖) (𝓜 .mem) (𝓡 .run) (tablesOf 𝓤 H 𝓜 (tables 𝓤 H 𝓜 𝓡 code.env))
-    (cited 𝓤 H (Callee 𝓤 H (𝓖 .A) (𝓜 .mem) (𝓡 .run)) 𝓜 𝓡 code.env #cursor·peek-at callee-def.routine code.calls-cursor·peek-at (callee-thm.met 𝓤 H 𝓜 𝓖 𝓡)))
+    (cited 𝓤 H (Callee 𝓤 H (𝓖 .A) (𝓜 .mem) (𝓡 .run)) 𝓜 𝓡 code.env #cursor·first-byte callee-def.routine code.calls-cursor·first-byte (callee-thm.met 𝓤 H 𝓜 𝓖 𝓡)))

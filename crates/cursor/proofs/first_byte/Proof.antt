@@ -1,11 +1,11 @@
--- `peek_at` meets its contract: 26 first, then the byte behind what is ignored.
+-- `first_byte` meets its contract: 26 first, then the byte behind what is ignored.
 use mathlib.Core.Path.{sym}
 use denote.Ref.{now}
 use native.Mathlib.Omega.{arith}
 use borrow.Author.Needs.{needs}
 use Rattle.cursor.proofs.Laws.{peek-beyond, peek-finds, peek-ends}
-use Rattle.cursor.proofs.peek_at.Statement.{statement}
-use Rattle.cursor.proofs.peek_at.Tie as tie
+use Rattle.cursor.proofs.first_byte.Statement.{statement}
+use Rattle.cursor.proofs.first_byte.Tie as tie
 
 returns : tie.Need-returns
 returns c = let x = c .before .before .args in sym (peek-beyond (x .format) (now (x .input)) (x .at) (omega arith))
@@ -28,5 +28,5 @@ returns-3 c =
     let y = c .before .skip in
     sym (peek-ends (x .format) (now (x .input)) (x .at) (y .result) (omega arith) (y .ensures) (omega arith))
 
-pub peek-at-spec : {M : Type 1} → statement M
-peek-at-spec = tie.close (tie.spec returns skip-requires shared-slice-read-t8 returns-2 returns-3)
+pub first-byte-spec : {M : Type 1} → statement M
+first-byte-spec = tie.close (tie.spec returns skip-requires shared-slice-read-t8 returns-2 returns-3)

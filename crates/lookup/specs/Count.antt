@@ -8,8 +8,8 @@ use Rattle.refusal.specs.Meaning.{refusalMeaning}
 use Rattle.refusal.specs.declared.Format.{Format}
 use Rattle.token.specs.declared.Token.{Token}
 use Rattle.lexer.specs.Lexer.{tokenFrom}
-use Rattle.cursor.specs.declared.Count.{Count}
-use Rattle.cursor.specs.declared.Count.the-variants.{Tokens, Refused}
+use Rattle.lookup.specs.declared.Count.{Count}
+use Rattle.lookup.specs.declared.Count.the-variants.{Tokens, Refused}
 
 -- a count: so many tokens, the place after the last, and why no further one stands there (more bytes are needed, or a refusal)
 pub data Counted : Type 0 where

@@ -5,10 +5,10 @@ use native.Mathlib.Omega.{arith}
 use lib.ListN.{length}
 use denote.Ref.{now}
 use borrow.Author.Needs.{needs}
-use Rattle.cursor.specs.Count.{countFrom, countOf}
-use Rattle.cursor.proofs.Laws.{read-is, token-grows, not-beyond, count-token, count-more, count-refused, count-ended}
-use Rattle.cursor.proofs.count_tokens.Statement.{statement}
-use Rattle.cursor.proofs.count_tokens.Tie as tie
+use Rattle.lookup.specs.Count.{countFrom, countOf}
+use Rattle.lookup.proofs.Laws.{read-is, token-grows, not-beyond, count-token, count-more, count-refused, count-ended}
+use Rattle.lookup.proofs.count_tokens.Statement.{statement}
+use Rattle.lookup.proofs.count_tokens.Tie as tie
 
 abbrev Inv-loop : tie.InvT-loop
 Inv-loop input format count₀ end₀ count end =
