@@ -4,7 +4,7 @@ use native.Mathlib.Omega.{arith}
 use lib.ListN.{length}
 use denote.Ref.{now}
 use borrow.Author.Needs.{needs}
-use Rattle.cursor.proofs.Laws.{read-is, token-grows}
+use Rattle.lookup.proofs.Laws.{read-is, token-grows}
 use Rattle.worked.proofs.tokens.say_tokens.Statement.{statement}
 use Rattle.worked.proofs.tokens.say_tokens.Tie as tie
 
