@@ -23,6 +23,7 @@ use Rattle.token.specs.declared.Token.the-variants.{String, Int64, Uint64, Doub
 use Rattle.token.specs.declared.Mark.{Mark}
 use Rattle.token.specs.declared.Mark.the-variants.{Is, Not}
 use Rattle.token.specs.Marks.{markOf, ofMark}
+use Rattle.word.proofs.Bytes.{word-same}
 use Rattle.token.proofs.Sound.{Sound, pick-sound, one-sound, mark-sound}
 use Rattle.binary.specs.Little.{little8}
 use Rattle.binary.specs.Binary.{ofSize, ofLength, ofVarint, doubleAt, marked, binaryFrom}
@@ -130,14 +131,8 @@ module _ (s u : List ℕ) (at : ℕ) (h : at < length s) where
   uint64-kept =
       through (ofVarint at Uint64) (ofVarint at Uint64) (uvarintAt s (at + 1)) (uvarintAt (s ++ u) (at + 1)) refl varint-kept (λ n. same _ _ refl)
 
-  byte : (i : ℕ) → at + i < length s → getD (s ++ u) (at + i) 0 ≡ getD s (at + i) 0
-  byte i k = List·getD-append s u 0 (at + i) k
-
   eight : 9 ≤ length s - at → little8 (s ++ u) (at + 1) ≡ little8 s (at + 1)
-  eight k =
-      let g : (i : ℕ) → at + 1 + i < length s → getD (s ++ u) (at + 1 + i) 0 ≡ getD s (at + 1 + i) 0 = λ i l. List·getD-append s u 0 (at + 1 + i) l in
-      let z : getD (s ++ u) (at + 1) 0 ≡ getD s (at + 1) 0 = List·getD-append s u 0 (at + 1) (omega arith) in
-      omega (arith, g 1 (omega arith), g 2 (omega arith), g 3 (omega arith), g 4 (omega arith), g 5 (omega arith), g 6 (omega arith), g 7 (omega arith))
+  eight k = word-same (s ++ u) s 8 (at + 1) (λ i l. List·getD-append s u 0 (at + 1 + i) (omega arith))
 
   double-kept : Kept (doubleAt s at) (doubleAt (s ++ u) at)
   unfolding doubleAt

@@ -1,9 +1,7 @@
 -- Laws of `binaryFrom`: which answer follows from what was read, and what a caller may rely on. Assumes nothing.
 use mathlib.Core.Path.{_≡_, refl, sym, ap, _∙_}
-use mathlib.Core.Logic.{⊎-elim}
 use mathlib.Core.List.{List, [], _∷_}
 use Prim.Native.Nat.{ℕ, zero, suc, _+_, _-_, _/_, _%_, _≤_, _<_}
-use native.Mathlib.Nat.{eq-zero-or-pos}
 use native.Mathlib.Omega.{arith}
 use lib.ListN.{length, getD}
 use lib.IntN.{ℤ, pos, negsuc}
@@ -57,22 +55,19 @@ module _ (s : List ℕ) (at : ℕ) where
 
   -- ---- strings, by the unsigned varint of the length
 
-  module _ (v n : ℕ) (e : uvarintAt s (at + 1) ≡ gives (got v n)) where
-    sized : varintAt s (at + 1) ≡ gives (got (signed v) n)
+  module _ (v n : ℕ) where
+    pub size-odd : v % 2 ≡ 1 → ofSize s at n (signed v) ≡ refused negativeLength (at ∷ [])
+    size-odd h = rw (odd v h)
+
+    pub size-short : v % 2 ≡ 0 → length s - n < v / 2 → ofSize s at n (signed v) ≡ more
+    size-short h k = rw (even v h, lt-ltb (length s - n) (v / 2) k)
+
+    pub size-whole : v % 2 ≡ 0 → v / 2 ≤ length s - n → ofSize s at n (signed v) ≡ gives (spot (String n (v / 2)) at (n + v / 2))
+    size-whole h k = rw (even v h, le-ltb (length s - n) (v / 2) k)
+
+    pub string-sized : uvarintAt s (at + 1) ≡ gives (got v n) → ofLength s at (varintAt s (at + 1)) ≡ ofSize s at n (signed v)
     unfolding varintAt
-    sized = ap signedAnswer e
-
-    pub string-odd : v % 2 ≡ 1 → ofLength s at (varintAt s (at + 1)) ≡ refused negativeLength (at ∷ [])
-    string-odd h = ap (ofLength s at) sized ∙ rw (odd v h)
-
-    string-even : (v % 2 ≡ 1 → ⊥) → ofLength s at (varintAt s (at + 1)) ≡ ofSize s at n (pos (v / 2))
-    string-even h = ap (ofLength s at) sized ∙ rw (even v (⊎-elim (λ z. z) (λ z. absurd (h (omega arith))) (eq-zero-or-pos (v % 2))))
-
-    pub string-short : (v % 2 ≡ 1 → ⊥) → length s - n < v / 2 → ofLength s at (varintAt s (at + 1)) ≡ more
-    string-short h k = string-even h ∙ rw (lt-ltb (length s - n) (v / 2) k)
-
-    pub string-whole : (v % 2 ≡ 1 → ⊥) → v / 2 ≤ length s - n → ofLength s at (varintAt s (at + 1)) ≡ gives (spot (String n (v / 2)) at (n + v / 2))
-    string-whole h k = string-even h ∙ rw (le-ltb (length s - n) (v / 2) k)
+    string-sized e = ap (λ (p : Paper (Got ℕ)). ofLength s at (signedAnswer p)) e
 
   -- the other answers of the varint
   pub string-more : uvarintAt s (at + 1) ≡ more → ofLength s at (varintAt s (at + 1)) ≡ more

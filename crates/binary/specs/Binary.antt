@@ -13,8 +13,6 @@ use Rattle.varint.specs.Varint.{uvarintAt}
 use Rattle.varint.specs.Zigzag.{signed, varintAt}
 use Rattle.token.specs.declared.Token.{Token}
 use Rattle.token.specs.declared.Token.the-variants.{String, Int64, Uint64, Double, Boolean}
-use Rattle.token.specs.Meaning.{kindsOf}
-use Rattle.token.specs.Ends.{stringEnd}
 use Rattle.token.specs.Marks.{markOf, ofMark}
 use Rattle.binary.specs.Little.{little8}
 
@@ -59,7 +57,3 @@ binaryFrom s at = pick (ltb at (length s)) (marked s at (getD s at 0)) more
 -- the same for a caller's place, which may lie beyond the slice
 unfoldable pub binaryAt : List ℕ → ℕ → Paper (Spot Token)
 binaryAt s at = pick (ltb (length s) at) (refused beyondSlice []) (binaryFrom s at)
-
--- the place after the string at a place where the byte behind its marker is its whole length; 0 where no such string stands there whole
-unfoldable pub shortStringEnd : List ℕ → ℕ → ℕ
-shortStringEnd s at = pick (ltb (at + 1) (length s)) (pick (ltb (getD s (at + 1) 0) 128) (stringEnd (kindsOf (binaryFrom s at))) 0) 0

@@ -445,7 +445,7 @@ pub fn pass(blocks: Blocks, input: &[u8], from: usize) -> Run
     let mut place = from;
     let mut readings: usize = 0;
     while place < input.len() {
-        let end = binary::token_end(input, place);
+        let end = binary_ends::token_end(input, place);
         readings += 1;
         if end == 0 {
             let what = why(input, place);

@@ -46,7 +46,7 @@ pub fn string_end(input: &[u8], at: usize, format: Format) -> usize
     ensures { λ r. ⌜ r ≡ stringEnd (kindAt format (now (input .entry)) at) ⌝ }
 {
     match format {
-        Format::Binary => binary::string_end(input, at),
+        Format::Binary => binary_ends::string_end(input, at),
         Format::Text => text::string_end(input, at),
     }
 }
@@ -56,7 +56,7 @@ pub fn scalar_end(input: &[u8], at: usize, format: Format) -> usize
     ensures { λ r. ⌜ r ≡ scalarEnd (kindAt format (now (input .entry)) at) ⌝ }
 {
     match format {
-        Format::Binary => binary::scalar_end(input, at),
+        Format::Binary => binary_ends::scalar_end(input, at),
         Format::Text => text::scalar_end(input, at),
     }
 }

@@ -252,7 +252,7 @@ fn past_flat(input: &[u8], from: usize) -> usize
 {
     let mut at = from;
     loop {
-        let key = binary::short_string_end(input, at);
+        let key = binary_ends::short_string_end(input, at);
         if key == 0 {
             return at;
         }
@@ -262,7 +262,7 @@ fn past_flat(input: &[u8], from: usize) -> usize
         if input[key] != b'=' {
             return at;
         }
-        let end = binary::scalar_end(input, key + 1);
+        let end = binary_ends::scalar_end(input, key + 1);
         if end == 0 {
             return at;
         }

@@ -1,5 +1,4 @@
--- Laws of searches: Laws by place, Marks from the marks of a word, Bytewise of masks on words, Eight of a word's bytes.
+-- Laws of searches: Laws by place, Marks from the marks of a word, Masks that mark each kind of byte.
 pub mod Laws
 mod Marks
-mod Bytewise
-mod Eight
+mod Masks

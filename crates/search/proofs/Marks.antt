@@ -1,49 +1,16 @@
--- Bytes in a word, lowest first, and a mark in the top bit of each byte of a kind: the marks say where the first one is.
+-- A mark in the top bit of each byte of a kind: the marks of a word say where the first one is.
 use mathlib.Core.Path.{_≡_, refl, sym, ap, _∙_}
 use mathlib.Core.Bool.{Bool, true, false, cond}
 use mathlib.Core.List.{List, [], _∷_}
-use Prim.Native.Nat.{ℕ, zero, suc, _+_, _*_, _-_, _/_, _%_, _^_, _≤_, _<_}
-use native.Mathlib.Nat.{add-zero, mul-one}
+use Prim.Native.Nat.{ℕ, zero, suc, _+_, _*_, _/_, _≤_, _<_}
+use native.Mathlib.Nat.{add-zero}
 use native.Mathlib.Omega.{arith}
-use lib.Bits.{shifted-half, shifted-even}
-use lib.Count.{under, trailingZeros}
+use lib.Count.{trailingZeros}
 use lib.ListN.{length, getD}
 use Rattle.search.specs.First.{first, firstFrom}
-use Rattle.search.specs.Word.{wordAt, marksAt}
+use Rattle.word.specs.Word.{marksAt}
+use Rattle.word.proofs.Marks.{plus, bitsOf, zeros-none, zeros-mark}
 use Rattle.search.proofs.Laws.{first-here, first-more}
-
--- n bytes that are all c
-abbrev pub rep : ℕ → ℕ → ℕ
-rep c zero = 0
-rep c (suc n) = rep c n * 256 + c
-
--- j more than k
-abbrev pub plus : ℕ → ℕ → ℕ
-plus zero k = k
-plus (suc j) k = suc (plus j k)
-
--- the digits of n bytes
-abbrev pub bitsOf : ℕ → ℕ
-bitsOf zero = 0
-bitsOf (suc n) = plus 8 (bitsOf n)
-
-zeros-shift : (j k a : ℕ) → trailingZeros (plus j k) (a * 2 ^ j) ≡ plus j (trailingZeros k a)
-unfolding trailingZeros
-zeros-shift zero k a = ap (trailingZeros k) (mul-one a)
-zeros-shift (suc j) k a = rw (shifted-even a j, shifted-half a j, zeros-shift j k a)
-
-zeros-none : (k a : ℕ) → trailingZeros (plus 8 k) (a * 256 + 0) ≡ plus 8 (trailingZeros k a)
-zeros-none k a = rw add-zero (zeros-shift 8 k a)
-
-zeros-mark : (k a : ℕ) → trailingZeros (plus 8 k) (a * 256 + 128) ≡ 7
-unfolding trailingZeros
-zeros-mark k a = ap (trailingZeros (plus 8 k)) split ∙ zeros-shift 7 (suc k) (a * 2 + 1) ∙ rw odd
-  where
-    split : a * 256 + 128 ≡ (a * 2 + 1) * 128
-    split = omega arith
-
-    odd : (a * 2 + 1) % 2 ≡ 1
-    odd = omega arith
 
 -- one byte: its mark t, the marks m of the bytes behind it
 module _ (f : ℕ → Bool) (s : List ℕ) (p : ℕ) (h : p < length s) (m : ℕ) where

@@ -1,3 +1,2 @@
--- What is searched for, and bytes as a number.
+-- What is searched for.
 pub mod First
-pub mod Word

@@ -1,40 +1,12 @@
 // Fast searches in bytes: the first place from a place on with a byte of a kind, or the end. specs/First.antt says what that is, byte by
-// byte. Here eight bytes are read as one number, and long runs are passed by blocks of 32 bytes; specs/Word.antt says how such
-// a number marks its bytes.
+// byte. Here eight bytes are read as one number, and long runs are passed by blocks of 32 bytes; specs/Word.antt of crate `word` says how
+// such a number marks its bytes.
 ghost use mathlib.Core.Path.{_≡_};
-ghost use Prim.Native.Nat.{_+_, _*_, _/_, _≤_};
+ghost use Prim.Native.Nat.{_+_, _≤_};
 ghost use lib.ListN.{length};
-ghost use lib.Count.{trailingZeros};
 ghost use lib.Bits.{bitAnd, bitOr};
 ghost use Rattle.search.specs.First.{firstFrom, isByte, isQuote, isOther, noLetter, isJoint, isEdge};
-ghost use Rattle.search.specs.Word.{wordAt, marksAt};
-
-// A byte as a number of 64 bits.
-fn wide(x: u8) -> u64
-    ensures { λ r. ⌜ (r ≡ x) × (r ≤ 255) ⌝ }
-{
-    x as u64
-}
-
-// Eight bytes as one number, lowest first.
-fn word8(s: &[u8], p: usize) -> u64
-    requires { ⌜ p + 8 ≤ length (now s) ⌝ }
-    ensures { λ r. ⌜ r ≡ wordAt 8 (now (s .entry)) p ⌝ }
-{
-    let a = wide(s[p]) + 256 * wide(s[p + 1]) + 65536 * wide(s[p + 2]) + 16777216 * wide(s[p + 3]);
-    let b = wide(s[p + 4])
-        + 256 * wide(s[p + 5])
-        + 65536 * wide(s[p + 6])
-        + 16777216 * wide(s[p + 7]);
-    a + 4294967296 * b
-}
-
-// How many bytes stand before the lowest mark; 8 where there is none.
-fn low_mark(m: u64) -> usize
-    ensures { λ r. ⌜ (r ≡ trailingZeros 64 m / 8) × (r ≤ 8) ⌝ }
-{
-    (u64::trailing_zeros(m) / 8) as usize
-}
+ghost use Rattle.word.specs.Word.{marksAt};
 
 // The top bit of each byte that is not 0; the other bits say nothing.
 fn filled(x: u64) -> u64
@@ -45,30 +17,27 @@ fn filled(x: u64) -> u64
 
 // A mark in the top bit of each of eight bytes that is `b`.
 fn byte_marks(s: &[u8], p: usize, b: u8) -> u64
-    requires { ⌜ p + 8 ≤ length (now s) ⌝ }
     ensures { λ r. ⌜ r ≡ marksAt (isByte b) 8 (now (s .entry)) p ⌝ }
 {
-    let w = word8(s, p);
-    let f = filled(w ^ (wide(b) * 0x0101_0101_0101_0101));
+    let w = word::word_at(s, p);
+    let f = filled(w ^ (b as u64 * 0x0101_0101_0101_0101));
     (f & 0x8080_8080_8080_8080) ^ 0x8080_8080_8080_8080
 }
 
 // A mark in the top bit of each of eight bytes that is a quote or a backslash.
 fn quote_marks(s: &[u8], p: usize) -> u64
-    requires { ⌜ p + 8 ≤ length (now s) ⌝ }
     ensures { λ r. ⌜ r ≡ marksAt isQuote 8 (now (s .entry)) p ⌝ }
 {
-    let w = word8(s, p);
+    let w = word::word_at(s, p);
     let f = filled(w ^ 0x2222_2222_2222_2222) & filled(w ^ 0x5c5c_5c5c_5c5c_5c5c);
     (f & 0x8080_8080_8080_8080) ^ 0x8080_8080_8080_8080
 }
 
 // A mark in the top bit of each of eight bytes that is no digit.
 fn other_marks(s: &[u8], p: usize) -> u64
-    requires { ⌜ p + 8 ≤ length (now s) ⌝ }
     ensures { λ r. ⌜ r ≡ marksAt isOther 8 (now (s .entry)) p ⌝ }
 {
-    let w = word8(s, p);
+    let w = word::word_at(s, p);
     let y = w & 0x7f7f_7f7f_7f7f_7f7f;
     let from = y + 0x5050_5050_5050_5050;
     let over = y + 0x4646_4646_4646_4646;
@@ -78,10 +47,9 @@ fn other_marks(s: &[u8], p: usize) -> u64
 
 // A mark in the top bit of each of eight bytes that is no letter.
 fn letter_marks(s: &[u8], p: usize) -> u64
-    requires { ⌜ p + 8 ≤ length (now s) ⌝ }
     ensures { λ r. ⌜ r ≡ marksAt noLetter 8 (now (s .entry)) p ⌝ }
 {
-    let w = word8(s, p);
+    let w = word::word_at(s, p);
     let z = (w & 0x7f7f_7f7f_7f7f_7f7f) | 0x2020_2020_2020_2020;
     let from = z + 0x1f1f_1f1f_1f1f_1f1f;
     let over = z + 0x0505_0505_0505_0505;
@@ -154,7 +122,7 @@ fn quote_words(s: &[u8], at: usize) -> usize
     while p <= last {
         let m = quote_marks(s, p);
         if m != 0 {
-            return p + low_mark(m);
+            return p + word::low_mark(m);
         }
         p += 8;
     }
@@ -194,7 +162,7 @@ pub fn find_byte(s: &[u8], at: usize, b: u8) -> usize
     while p <= last {
         let m = byte_marks(s, p, b);
         if m != 0 {
-            return p + low_mark(m);
+            return p + word::low_mark(m);
         }
         p += 8;
     }
@@ -234,7 +202,7 @@ pub fn find_other(s: &[u8], at: usize) -> usize
     while p <= last {
         let m = other_marks(s, p);
         if m != 0 {
-            return p + low_mark(m);
+            return p + word::low_mark(m);
         }
         p += 8;
     }
@@ -285,7 +253,7 @@ pub fn find_edge(s: &[u8], at: usize) -> usize
         if m == 0 {
             p += 8;
         } else {
-            let q = p + low_mark(m);
+            let q = p + word::low_mark(m);
             if !is_joint(s[q]) {
                 return q;
             }

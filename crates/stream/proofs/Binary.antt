@@ -12,6 +12,7 @@ use Rattle.token.specs.declared.Token.{Token}
 use Rattle.token.specs.Meaning.{kindsOf}
 use Rattle.varint.specs.Varint.{uvarintAt}
 use Rattle.varint.specs.Zigzag.{signedAnswer, varintAt}
+use Rattle.word.proofs.Bytes.{word-same}
 use Rattle.binary.specs.Little.{little8}
 use Rattle.binary.specs.Binary.{ofSize, ofLength, doubleAt, marked, binaryFrom}
 use Rattle.lexer.specs.Lexer.{kindAt, tokenFrom}
@@ -49,9 +50,7 @@ module _ (s u : List ℕ) (p : ℕ) (n : length s ≡ length u) (e : drop p s �
   same-signed = ap signedAnswer same-varint
 
   same-little : little8 s (p + 1) ≡ little8 u (p + 1)
-  same-little =
-      let b : (i : ℕ) → getD s (p + 1 + i) 0 ≡ getD u (p + 1 + i) 0 = λ i. let z : p + (1 + i) ≡ p + 1 + i = omega arith in rw z at (byte (1 + i)) in
-      rw (byte 1, b 1, b 2, b 3, b 4, b 5, b 6, b 7)
+  same-little = word-same s u 8 (p + 1) (λ i h. let z : p + (1 + i) ≡ p + 1 + i = omega arith in rw z at (byte (1 + i)))
 
   same-double : doubleAt s p ≡ doubleAt u p
   unfolding doubleAt

@@ -4,7 +4,7 @@ use native.Mathlib.Omega.{arith}
 use lib.ListN.{length}
 use borrow.Author.Needs.{needs}
 use Rattle.refusal.specs.declared.Format.the-variants.{Binary}
-use Rattle.binary.proofs.Short.{short-string}
+use Rattle.binary_ends.proofs.Short.{short-string}
 use Rattle.scan.specs.Post.{Along}
 use Rattle.scan.proofs.Pairs.{along-none, along-pair, along-next, pair-grows}
 use Rattle.scan.proofs.past_flat.Statement.{statement}

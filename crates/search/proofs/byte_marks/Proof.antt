@@ -1,5 +1,5 @@
 -- `byte_marks` meets its contract: the masks mark each byte by itself.
-use Rattle.search.proofs.Bytewise.{byted, rep-eight}
+use Rattle.search.proofs.Masks.{byted, rep-eight}
 use lib.Bits.{bitAnd, bitOr, bitXor}
 use native.Mathlib.Omega.{arith}
 use Prim.Native.Nat.{ℕ, _+_, _*_}
@@ -8,11 +8,8 @@ use borrow.Author.Needs.{needs}
 use Rattle.search.proofs.byte_marks.Statement.{statement}
 use Rattle.search.proofs.byte_marks.Tie as tie
 
-word8-requires : tie.Need-word8-requires
-word8-requires c κs = search needs
-
-wide-requires : tie.Need-wide-requires
-wide-requires c κs = search needs
+word-at-requires : tie.Need-word-at-requires
+word-at-requires c κs = search needs
 
 mul-filled : tie.Need-mul-filled
 mul-filled c = search needs
@@ -24,8 +21,8 @@ returns : tie.Need-returns
 returns c =
     ap (λ (x : ℕ). bitXor (bitAnd x 9259542123273814144) 9259542123273814144) (c .filled .ensures)
     ∙ ap (λ (x : ℕ). bitXor (bitAnd (bitOr (bitAnd x 9187201950435737471 + 9187201950435737471) x) 9259542123273814144) 9259542123273814144)
-    (ap₂ bitXor (c .before .before .word8 .ensures) (ap (λ (x : ℕ). x * 72340172838076673) (c .before .wide .ensures .0) ∙ rep-eight _))
-    ∙ byted _ (omega arith) _ (λ i. omega (arith, c .before .before .before .shared-slice-known .given i)) 8 _
+    (ap₂ bitXor (c .before .word-at .ensures) (rep-eight _))
+    ∙ byted _ (omega arith) _ (λ i. omega (arith, c .before .before .shared-slice-known .given i)) 8 _
 
 pub byte-marks-spec : {M : Type 1} → statement M
-byte-marks-spec = tie.close (tie.spec word8-requires wide-requires mul-filled filled-requires returns)
+byte-marks-spec = tie.close (tie.spec word-at-requires mul-filled filled-requires returns)

@@ -1,5 +1,5 @@
 -- `letter_marks` meets its contract: the masks mark each byte by itself.
-use Rattle.search.proofs.Bytewise.{letters, lettered, or-63}
+use Rattle.search.proofs.Masks.{letters, lettered, or-63}
 use lib.Dec.{lit<}
 use native.Mathlib.Omega.{arith}
 use mathlib.Core.Path.{ap, _∙_}
@@ -7,17 +7,17 @@ use borrow.Author.Needs.{needs}
 use Rattle.search.proofs.letter_marks.Statement.{statement}
 use Rattle.search.proofs.letter_marks.Tie as tie
 
-word8-requires : tie.Need-word8-requires
-word8-requires c κs = search needs
+word-at-requires : tie.Need-word-at-requires
+word-at-requires c κs = search needs
 
 add-from : tie.Need-add-from
-add-from c = omega (arith, or-63 (c .word8 .result) 2314885530818453536 (lit< tt))
+add-from c = omega (arith, or-63 (c .word-at .result) 2314885530818453536 (lit< tt))
 
 add-over : tie.Need-add-over
-add-over c = omega (arith, or-63 (c .word8 .result) 2314885530818453536 (lit< tt))
+add-over c = omega (arith, or-63 (c .word-at .result) 2314885530818453536 (lit< tt))
 
 returns : tie.Need-returns
-returns c = ap (letters 8) (c .word8 .ensures) ∙ lettered _ (λ i. omega (arith, c .before .shared-slice-known .given i)) 8 _
+returns c = ap (letters 8) (c .word-at .ensures) ∙ lettered _ (λ i. omega (arith, c .before .shared-slice-known .given i)) 8 _
 
 pub letter-marks-spec : {M : Type 1} → statement M
-letter-marks-spec = tie.close (tie.spec word8-requires add-from add-over returns)
+letter-marks-spec = tie.close (tie.spec word-at-requires add-from add-over returns)

@@ -1,5 +1,5 @@
 -- `other_marks` meets its contract: the masks mark each byte by itself.
-use Rattle.search.proofs.Bytewise.{others, othered, low-63}
+use Rattle.search.proofs.Masks.{others, othered, low-63}
 use lib.Dec.{lit<}
 use native.Mathlib.Omega.{arith}
 use mathlib.Core.Path.{ap, _∙_}
@@ -7,17 +7,17 @@ use borrow.Author.Needs.{needs}
 use Rattle.search.proofs.other_marks.Statement.{statement}
 use Rattle.search.proofs.other_marks.Tie as tie
 
-word8-requires : tie.Need-word8-requires
-word8-requires c κs = search needs
+word-at-requires : tie.Need-word-at-requires
+word-at-requires c κs = search needs
 
 add-from : tie.Need-add-from
-add-from c = omega (arith, low-63 (c .word8 .result))
+add-from c = omega (arith, low-63 (c .word-at .result))
 
 add-over : tie.Need-add-over
-add-over c = omega (arith, low-63 (c .word8 .result))
+add-over c = omega (arith, low-63 (c .word-at .result))
 
 returns : tie.Need-returns
-returns c = ap (others 8) (c .word8 .ensures) ∙ othered _ (λ i. omega (arith, c .before .shared-slice-known .given i)) 8 _
+returns c = ap (others 8) (c .word-at .ensures) ∙ othered _ (λ i. omega (arith, c .before .shared-slice-known .given i)) 8 _
 
 pub other-marks-spec : {M : Type 1} → statement M
-other-marks-spec = tie.close (tie.spec word8-requires add-from add-over returns)
+other-marks-spec = tie.close (tie.spec word-at-requires add-from add-over returns)

@@ -1,5 +1,5 @@
 -- `quote_marks` meets its contract: the masks mark each byte by itself.
-use Rattle.search.proofs.Bytewise.{quotes, quoted}
+use Rattle.search.proofs.Masks.{quotes, quoted}
 use lib.Bits.{bitAnd, bitXor}
 use native.Mathlib.Omega.{arith}
 use Prim.Native.Nat.{ℕ}
@@ -8,8 +8,8 @@ use borrow.Author.Needs.{needs}
 use Rattle.search.proofs.quote_marks.Statement.{statement}
 use Rattle.search.proofs.quote_marks.Tie as tie
 
-word8-requires : tie.Need-word8-requires
-word8-requires c κs = search needs
+word-at-requires : tie.Need-word-at-requires
+word-at-requires c κs = search needs
 
 filled-requires : tie.Need-filled-requires
 filled-requires c κs = search needs
@@ -20,8 +20,8 @@ filled-requires-2 c κs = search needs
 returns : tie.Need-returns
 returns c =
     ap₂ (λ (x y : ℕ). bitXor (bitAnd (bitAnd x y) 9259542123273814144) 9259542123273814144) (c .before .filled .ensures) (c .filled2 .ensures)
-    ∙ ap (quotes 8) (c .before .before .word8 .ensures)
+    ∙ ap (quotes 8) (c .before .before .word-at .ensures)
     ∙ quoted _ (λ i. omega (arith, c .before .before .before .shared-slice-known .given i)) 8 _
 
 pub quote-marks-spec : {M : Type 1} → statement M
-quote-marks-spec = tie.close (tie.spec word8-requires filled-requires filled-requires-2 returns)
+quote-marks-spec = tie.close (tie.spec word-at-requires filled-requires filled-requires-2 returns)

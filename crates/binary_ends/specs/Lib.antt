@@ -1,0 +1,2 @@
+-- The definitions that the contracts of this crate cite.
+pub mod Short

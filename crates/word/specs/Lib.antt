@@ -1,0 +1,2 @@
+-- Bytes as a number.
+pub mod Word
