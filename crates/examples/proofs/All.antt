@@ -8,8 +8,8 @@ use Rattle.token.specs.Marks.{markOf}
 use Rattle.binary.specs.Binary.{doubleAt, marked, binaryFrom, binaryAt}
 use Rattle.binary.specs.Strings.{binaryStringAt}
 use Rattle.blanks.specs.Skip.{isBlank, ignored, inLine, inBlock, skipFrom}
-use Rattle.quoted.specs.Bytes.{hexDigit, octalDigit}
-use Rattle.quoted.specs.Pieces.{hexOf, thirdOf, octalOf, escapeOf, pieceOf, walk}
+use Rattle.pieces.specs.Bytes.{hexDigit, octalDigit}
+use Rattle.pieces.specs.Pieces.{hexOf, thirdOf, octalOf, escapeOf, pieceOf, walk}
 use Rattle.quoted.specs.Quoted.{closing, hidden, stands, quotedAt, quotedBytes, quotedStringAt}
 use Rattle.number.specs.Bytes.{isDigit, isSign, isExponent, isPointed, isText, any, all}
 use Rattle.number.specs.Grammar.{front, past, afterSign, digitsLeft, pointLeft, mantissaLeft, exponentLeft, doubleLeft, isDouble, isDecimal, valueAfter, isUpTo}

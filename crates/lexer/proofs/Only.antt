@@ -23,7 +23,7 @@ use Rattle.token.specs.Marks.{markOf, ofMark}
 use Rattle.token.proofs.Ends.{holds, All}
 use Rattle.binary.specs.Little.{little8}
 use Rattle.binary.specs.Binary.{ofSize, ofLength, ofVarint, doubleAt, marked}
-use Rattle.quoted.specs.Bytes.{quote}
+use Rattle.pieces.specs.Bytes.{quote}
 use Rattle.quoted.specs.Quoted.{quotedAt}
 use Rattle.number.specs.Number.{numberAt}
 use Rattle.words.specs.Word.{wordAt}

@@ -1,26 +1,25 @@
--- One law for each way through the definition of the quoted string at a place, from what the private functions answer, and the
--- output that each leaves.
+-- One law for each way through the definition of the quoted string at a place, from what the private functions answer.
 use mathlib.Core.Path.{_≡_, refl, sym, ap, _∙_}
 use mathlib.Core.Bool.{Bool, true, false}
-use mathlib.Core.List.{List, [], _∷_, _++_, append-nil}
+use mathlib.Core.List.{List, [], _∷_, _++_}
 use Prim.Native.Nat.{ℕ, zero, suc, _+_, _-_, _≤_, _<_}
 use native.Mathlib.Omega.{arith}
 use borrow.Author.Tests.{lt-ltb, le-ltb, lt-leb, le-leb, eqb-true}
 use lib.Dec.{eqb, ltb}
 use lib.ListN.{length, getD, drop, take, length-drop}
-use lib.Seq.{drop-drop, getD-drop, length-take-le}
-use Rattle.refusal.specs.Numbers.{beyondSlice, badHexEscape, shortOutput}
-use Rattle.refusal.specs.Paper.{Paper, gives, more, refused, Got, got, Spot, spot}
-use Rattle.token.specs.Strings.{bytesAnswer, bytesWritten}
+use lib.Seq.{drop-drop, getD-drop}
+use Rattle.refusal.specs.Numbers.{beyondSlice, badHexEscape}
+use Rattle.refusal.specs.Paper.{Paper, gives, more, refused, Spot, spot}
+use Rattle.token.specs.Ends.{endOf}
 use Rattle.token.specs.declared.Token.{Token}
 use Rattle.token.specs.declared.Token.the-variants.{String, Escaped}
-use Rattle.quoted.specs.Pieces.{End, closed, badHex, cut, Walk, walk}
-use Rattle.token.specs.Ends.{endOf}
-use Rattle.quoted.specs.Quoted.{Closing, closesAt, unclosed, closing, hidden, stands, tokenOf, judged, closedAs, quotedAt, quotedBytes, quotedStringAt}
-use Rattle.quoted.specs.Inside.{plain, closingBy, countBy, countOf, overlay}
-use Rattle.quoted.proofs.Places.{drop-more, closing-by, close-out, close-quote, walk-quote, ending}
-use Rattle.quoted.proofs.Plain.{ahead, plain-within, plain-closing, plain-walk, plain-none, plain-stops, stands-at}
-use Rattle.quoted.proofs.Writes.{overlay-fits}
+use Rattle.pieces.specs.Pieces.{End, closed, badHex, cut, Walk, walk}
+use Rattle.pieces.specs.Numbers.{countOf}
+use Rattle.pieces.proofs.Walks.{drop-more, walk-quote, told-bad, told-cut, told-closed}
+use Rattle.quoted.specs.Quoted.{Closing, closesAt, unclosed, closing, hidden, stands, judged, closedAs, quotedAt}
+use Rattle.quoted.specs.Inside.{plain, closingBy, Opens}
+use Rattle.quoted.proofs.Places.{closing-by, close-out, close-quote}
+use Rattle.quoted.proofs.Plain.{ahead, plain-closing, plain-walk, plain-none, plain-stops, stands-at}
 
 -- the closing quote of a list that starts at p lies in that list
 mutual
@@ -48,37 +47,8 @@ past-backslash : (s : List ℕ) (p q : ℕ) → p < length s → getD s p 0 ≡ 
 unfolding closing
 past-backslash s p q h b e = let z = hidden-lies (p + 1) (drop (p + 1) s) q (rw (drop-more s p h, b) at e) in omega arith
 
--- what a count tells of the end
-module _ (n : ℕ) (w : Walk) where
-  pub count-bad : 1 ≡ countOf n w → w .end ≡ badHex
-  unfolding countOf
-  count-bad e = go (w .end) e
-    where
-      go : (x : End) → 1 ≡ countBy x (n + length (w .bytes)) → x ≡ badHex
-      go closed f = absurd (omega arith)
-      go badHex f = refl
-      go cut f = absurd (omega arith)
-
-  pub count-cut : 0 ≡ countOf n w → w .end ≡ cut
-  unfolding countOf
-  count-cut e = go (w .end) e
-    where
-      go : (x : End) → 0 ≡ countBy x (n + length (w .bytes)) → x ≡ cut
-      go closed f = absurd (omega arith)
-      go badHex f = absurd (omega arith)
-      go cut f = refl
-
-  count-whole : 2 ≤ countOf n w → (w .end ≡ closed) × (countOf n w ≡ n + length (w .bytes) + 2)
-  unfolding countOf
-  count-whole h = go (w .end) h
-    where
-      go : (x : End) → 2 ≤ countBy x (n + length (w .bytes)) → (x ≡ closed) × (countBy x (n + length (w .bytes)) ≡ n + length (w .bytes) + 2)
-      go closed f = (refl, refl)
-      go badHex f = absurd (omega arith)
-      go cut f = absurd (omega arith)
-
-  pub count-closed : (m : ℕ) → m ≡ countOf n w → 2 ≤ m → w .end ≡ closed
-  count-closed m e h = count-whole (omega arith) .0
+pub inside : (n at : ℕ) → at ≤ n → (n ≡ at → ⊥) → at < n
+inside n at h e = omega arith
 
 module _ (s : List ℕ) (at : ℕ) where
   pub way-beyond : length s < at → quotedAt s at ≡ refused beyondSlice []
@@ -97,110 +67,74 @@ module _ (s : List ℕ) (at : ℕ) where
       go true e = rw e
       go false e = rw (e, le-leb _ _ h)
 
-  module _ (h : at < length s) where
-    pub within : quotedAt s at ≡ closedAs s at (closing (at + 1) (drop (at + 1) s))
-    unfolding quotedAt
-    within = rw (le-ltb (length s) at (omega arith), lt-leb _ _ h)
+  pub within : at < length s → quotedAt s at ≡ closedAs s at (closing (at + 1) (drop (at + 1) s))
+  unfolding quotedAt
+  within h = rw (le-ltb (length s) at (omega arith), lt-leb _ _ h)
 
-    -- p is the first place of a quote or a backslash, or the end
-    module _ (p : ℕ) (e : p ≡ at + 1 + plain (drop (at + 1) s)) where
-      from-there : drop (plain (drop (at + 1) s)) (drop (at + 1) s) ≡ drop p s
-      from-there = drop-drop (plain (drop (at + 1) s)) (at + 1) s ∙ ap (λ (n : ℕ). drop n s) (sym e)
+  -- p is the first place of a quote or a backslash, or the end
+  module _ (p : ℕ) (e : p ≡ at + 1 + plain (drop (at + 1) s)) where
+    from-there : drop (plain (drop (at + 1) s)) (drop (at + 1) s) ≡ drop p s
+    from-there = drop-drop (plain (drop (at + 1) s)) (at + 1) s ∙ ap (λ (n : ℕ). drop n s) (sym e)
 
-      same-closing : closing (at + 1) (drop (at + 1) s) ≡ closing p (drop p s)
-      same-closing = plain-closing (at + 1) (drop (at + 1) s) ∙ rw (from-there, e)
+    same-closing : closing (at + 1) (drop (at + 1) s) ≡ closing p (drop p s)
+    same-closing = plain-closing (at + 1) (drop (at + 1) s) ∙ rw (from-there, e)
 
-      same-walk : walk 0 (drop (at + 1) s) ≡ ahead (take (plain (drop (at + 1) s)) (drop (at + 1) s)) (walk 0 (drop p s))
-      same-walk = plain-walk (drop (at + 1) s) ∙ ap (λ (l : List ℕ). ahead (take (plain (drop (at + 1) s)) (drop (at + 1) s)) (walk 0 l)) from-there
+    same-end : walk 0 (drop (at + 1) s) .end ≡ walk 0 (drop p s) .end
+    same-end =
+        ap (λ (w : Walk). w .end)
+        (plain-walk (drop (at + 1) s) ∙ ap (λ (l : List ℕ). ahead (take (plain (drop (at + 1) s)) (drop (at + 1) s)) (walk 0 l)) from-there)
 
-      pub same-end : walk 0 (drop (at + 1) s) .end ≡ walk 0 (drop p s) .end
-      same-end = ap (λ (w : Walk). w .end) same-walk
+    pub way-open : at < length s → length s ≤ p → quotedAt s at ≡ more
+    way-open h l = within h ∙ ap (closedAs s at) (same-closing ∙ sym (close-out s p l))
 
-      pub way-open : length s ≤ p → quotedAt s at ≡ more
-      way-open l = within ∙ ap (closedAs s at) (same-closing ∙ sym (close-out s p l))
+    pub way-plain : at < length s → p < length s → getD s p 0 ≡ 34 → quotedAt s at ≡ gives (spot (String (at + 1) (p - (at + 1))) at (p + 1))
+    way-plain h l q =
+        within h ∙ ap (closedAs s at) (same-closing ∙ sym (close-quote s p l q)) ∙
+        rw (same-end, walk-quote s p l q, len, plain-none (drop (at + 1) s))
+      where
+        len : p - (at + 1) ≡ plain (drop (at + 1) s)
+        len = omega arith
 
-      module _ (l : p < length s) (q : getD s p 0 ≡ 34) where
-        pub way-plain : quotedAt s at ≡ gives (spot (String (at + 1) (p - (at + 1))) at (p + 1))
-        way-plain =
-            within ∙ ap (closedAs s at) (same-closing ∙ sym (close-quote s p l q)) ∙
-            rw (same-end, walk-quote s p l q, len, plain-none (drop (at + 1) s))
+  -- a backslash stands there, and q is the place of the closing quote, or 0
+  module _ (p : ℕ) (o : Opens s at p) (q : ℕ) (c : closingBy q ≡ closing p (drop p s)) where
+    pub way-unclosed : q ≡ 0 → quotedAt s at ≡ more
+    way-unclosed z = within (o .opened) ∙ ap (closedAs s at) (same-closing p (o .first) ∙ sym c ∙ ap closingBy z)
+
+    module _ (n : q ≡ 0 → ⊥) where
+      closes : closing p (drop p s) ≡ closesAt q
+      closes = sym c ∙ closing-by q n
+
+      byte-there : getD (drop (at + 1) s) (plain (drop (at + 1) s)) 0 ≡ getD s p 0
+      byte-there = getD-drop (at + 1) s (plain (drop (at + 1) s)) 0 ∙ ap (λ (k : ℕ). getD s k 0) (sym (o .first))
+
+      there : getD s p 0 ≡ 92
+      there = sym byte-there ∙ plain-stops (drop (at + 1) s) (rw length-drop (omega (arith, o .first, o .lies))) (λ x. o .escape (sym byte-there ∙ x))
+
+      escaped : stands 92 (take (q - (at + 1)) (drop (at + 1) s)) ≡ true
+      escaped =
+          stands-at 92 (drop (at + 1) s) (plain (drop (at + 1) s)) (q - (at + 1))
+          (omega (arith, o .first, past-backslash s p q (o .lies) there closes))
+          (rw length-drop (omega (arith, o .first, o .lies)))
+          (byte-there ∙ there)
+
+      pub close-bounds : (at + 1 ≤ q) × (q < length s)
+      close-bounds = let z = closing-lies p (drop p s) q closes in (omega (arith, o .first), omega (arith, length-drop p s, o .lies))
+
+      way-judged : (x : End) → walk 0 (drop p s) .end ≡ x → quotedAt s at ≡ judged x at (Escaped (at + 1) (q - (at + 1))) (q + 1)
+      way-judged x f = within (o .opened) ∙ ap (closedAs s at) (same-closing p (o .first) ∙ closes) ∙ rw (same-end p (o .first), f, escaped)
+
+      -- m is what measuring from there gives
+      module _ (m : ℕ) (e : m ≡ countOf 0 (walk 0 (drop p s))) where
+        pub way-bad : m ≡ 1 → quotedAt s at ≡ refused badHexEscape (at ∷ [])
+        way-bad z = way-judged badHex (told-bad 0 _ (sym z ∙ e))
+
+        pub way-cut : m ≡ 0 → quotedAt s at ≡ more
+        way-cut z = way-judged cut (told-cut 0 _ (sym z ∙ e))
+
+        pub way-escaped : (m ≡ 1 → ⊥) → (m ≡ 0 → ⊥) → quotedAt s at ≡ gives (spot (Escaped (at + 1) (q - (at + 1))) at (q + 1))
+        way-escaped y z = way-judged closed (told-closed 0 _ m e (whole m y z))
           where
-            len : p - (at + 1) ≡ plain (drop (at + 1) s)
-            len = omega arith
-
-        pub plain-count : p - (at + 1) ≡ length (quotedBytes s at)
-        unfolding quotedBytes
-        plain-count =
-            len ∙
-            sym (length-take-le (plain (drop (at + 1) s)) (drop (at + 1) s) (plain-within (drop (at + 1) s))) ∙
-            ap length (sym (append-nil (take (plain (drop (at + 1) s)) (drop (at + 1) s)))) ∙
-            ap (λ (w : Walk). length (w .bytes)) (sym (same-walk ∙ ap (ahead (take (plain (drop (at + 1) s)) (drop (at + 1) s))) (walk-quote s p l q)))
-          where
-            len : p - (at + 1) ≡ plain (drop (at + 1) s)
-            len = omega arith
-
-      pub way-unclosed : (q : ℕ) → closingBy q ≡ closing p (drop p s) → q ≡ 0 → quotedAt s at ≡ more
-      way-unclosed q c z = within ∙ ap (closedAs s at) (same-closing ∙ sym c ∙ ap closingBy z)
-
-      -- a backslash stands there, and q is the place of the closing quote
-      module _ (l : p < length s) (b : getD s p 0 ≡ 34 → ⊥) (q : ℕ) (c : closingBy q ≡ closing p (drop p s)) (n : q ≡ 0 → ⊥) where
-        closes : closing p (drop p s) ≡ closesAt q
-        closes = sym c ∙ closing-by q n
-
-        escaped : stands 92 (take (q - (at + 1)) (drop (at + 1) s)) ≡ true
-        escaped =
-            stands-at 92 (drop (at + 1) s) (plain (drop (at + 1) s)) (q - (at + 1))
-            (omega (arith, past-backslash s p q l there closes))
-            (rw length-drop (omega arith))
-            (getD-drop (at + 1) s (plain (drop (at + 1) s)) 0 ∙ ap (λ (k : ℕ). getD s k 0) (sym e) ∙ there)
-          where
-            there : getD s p 0 ≡ 92
-            there = rw (getD-drop (at + 1) s (plain (drop (at + 1) s)) 0, ← e) at (plain-stops (drop (at + 1) s) (rw length-drop (omega arith)) (λ x. b (rw (getD-drop (at + 1) s (plain (drop (at + 1) s)) 0, ← e) at x)))
-
-        pub close-bounds : (p ≤ q) × (q < length s)
-        close-bounds = let z = closing-lies p (drop p s) q closes in (z .0, omega (arith, length-drop p s))
-
-        way-judged : (x : End) → walk 0 (drop (at + 1) s) .end ≡ x → quotedAt s at ≡ judged x at (Escaped (at + 1) (q - (at + 1))) (q + 1)
-        way-judged x f = within ∙ ap (closedAs s at) (same-closing ∙ closes) ∙ rw (f, escaped)
-
-        pub way-bad : walk 0 (drop (at + 1) s) .end ≡ badHex → quotedAt s at ≡ refused badHexEscape (at ∷ [])
-        way-bad f = way-judged badHex f
-
-        pub way-cut : walk 0 (drop (at + 1) s) .end ≡ cut → quotedAt s at ≡ more
-        way-cut f = way-judged cut f
-
-        pub way-escaped : walk 0 (drop (at + 1) s) .end ≡ closed → quotedAt s at ≡ gives (spot (Escaped (at + 1) (q - (at + 1))) at (q + 1))
-        way-escaped f = way-judged closed f
-
--- the count that measuring a string with escapes gives
-pub escaped-count : (s : List ℕ) (at m : ℕ) → m ≡ countOf 0 (walk 0 (drop (at + 1) s)) → 2 ≤ m → m - 2 ≡ length (quotedBytes s at)
-unfolding quotedBytes
-escaped-count s at m e h = omega (arith, count-whole 0 (walk 0 (drop (at + 1) s)) (omega arith) .1)
-
--- what the writer leaves of an output with room for the bytes
-laid : (s : List ℕ) (at : ℕ) (out : List ℕ) (count : ℕ) → count ≡ length (quotedBytes s at) → count ≤ length out
-    → (o : List ℕ) → o ≡ overlay (walk 0 (drop (at + 1) s) .bytes) out → o ≡ quotedBytes s at ++ drop count out
-unfolding quotedBytes
-laid s at out count size h o f =
-    f ∙ overlay-fits (walk 0 (drop (at + 1) s) .bytes) out (omega arith) ∙ ap (λ (n : ℕ). walk 0 (drop (at + 1) s) .bytes ++ drop n out) (sym size)
-
--- the bytes: what is answered, and what the output holds then
-module _ (s : List ℕ) (at : ℕ) (out : List ℕ) where
-  pub kept-more : quotedAt s at ≡ more → (more ≡ bytesAnswer (quotedStringAt s at) (length out)) × (out ≡ bytesWritten (quotedStringAt s at) out)
-  unfolding quotedStringAt bytesAnswer bytesWritten
-  kept-more e = (rw e, rw e)
-
-  pub kept-refused : (n : ℕ) (vs : List ℕ) → quotedAt s at ≡ refused n vs
-      → (refused n vs ≡ bytesAnswer (quotedStringAt s at) (length out)) × (out ≡ bytesWritten (quotedStringAt s at) out)
-  unfolding quotedStringAt bytesAnswer bytesWritten
-  kept-refused n vs e = (rw e, rw e)
-
-  module _ (t : Token) (a next : ℕ) (e : quotedAt s at ≡ gives (spot t a next)) (count : ℕ) (size : count ≡ length (quotedBytes s at)) where
-    pub kept-short : length out < count → (refused shortOutput [] ≡ bytesAnswer (quotedStringAt s at) (length out)) × (out ≡ bytesWritten (quotedStringAt s at) out)
-    unfolding quotedStringAt bytesAnswer bytesWritten
-    kept-short h = (rw (e, ← size, lt-ltb _ _ h), rw (e, ← size, lt-ltb _ _ h))
-
-    pub wrote : count ≤ length out → (o : List ℕ) → o ≡ overlay (walk 0 (drop (at + 1) s) .bytes) out
-        → (gives (got count next) ≡ bytesAnswer (quotedStringAt s at) (length out)) × (o ≡ bytesWritten (quotedStringAt s at) out)
-    unfolding quotedStringAt bytesAnswer bytesWritten
-    wrote h o f = (rw (e, ← size, le-ltb _ _ h), rw (e, ← size, le-ltb _ _ h) (laid s at out count size h o f))
+            whole : (k : ℕ) → (k ≡ 1 → ⊥) → (k ≡ 0 → ⊥) → 2 ≤ k
+            whole zero a b = absurd (b refl)
+            whole (suc zero) a b = absurd (a refl)
+            whole (suc (suc k)) a b = omega arith

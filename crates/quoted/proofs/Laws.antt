@@ -6,21 +6,25 @@ use mathlib.Core.List.{List, [], _∷_}
 use mathlib.Core.Logic.{_⊎_, inl, inr}
 use Prim.Native.Nat.{ℕ, zero, suc, _+_, _-_, _≤_, _<_}
 use native.Mathlib.Omega.{arith}
-use borrow.Author.Tests.{ltb-true}
-use lib.Dec.{ltb, leb}
+use borrow.Author.Tests.{ltb-true, eqb-true, eqb-false}
+use lib.Dec.{ltb, leb, eqb}
 use lib.ListN.{length, drop, take, length-drop}
 use Rattle.refusal.specs.Numbers.{beyondSlice, badHexEscape}
 use Rattle.refusal.specs.Paper.{Paper, gives, more, refused, Spot, spot, pick}
-use Rattle.token.specs.Meaning.{kindOf, kindsOf}
+use Rattle.token.specs.Meaning.{kindOf, kindsOf, extentOf}
 use Rattle.token.specs.declared.Token.{Token}
 use Rattle.token.specs.declared.Token.the-variants.{String, Escaped}
+use Rattle.token.specs.declared.Extent.{Extent}
+use Rattle.token.specs.declared.Extent.the-variants.{Plain}
 use Rattle.token.specs.declared.Kind.{Kind}
 use Rattle.token.specs.declared.Kind.the-variants.{Text}
-use Rattle.quoted.specs.Bytes.{backslash}
-use Rattle.quoted.specs.Pieces.{End, closed, badHex, cut, walk}
+use Rattle.pieces.specs.Bytes.{backslash}
+use Rattle.pieces.specs.Pieces.{End, closed, badHex, cut, Walk, walk}
+use Rattle.pieces.proofs.Walks.{walk-quote-cons, walk-plain-cons}
 use Rattle.token.specs.Ends.{endOf}
-use Rattle.quoted.specs.Quoted.{Closing, closesAt, unclosed, closing, stands, tokenOf, judged, closedAs, quotedAt}
-use Rattle.quoted.proofs.Answers.{closing-lies, way-end, way-beyond}
+use Rattle.quoted.specs.Quoted.{Closing, closesAt, unclosed, closing, stands, tokenOf, judged, closedAs, quotedAt, quotedBytes}
+use Rattle.quoted.proofs.Plain.{stands-at}
+use Rattle.quoted.proofs.Answers.{closing-lies, hidden-lies, way-end, way-beyond}
 
 -- the token of the quoted string whose opening quote stands at a place, among so many bytes
 pub record Found (bytes at : ℕ) (t : Token) (first next : ℕ) : Type 0 where
@@ -117,3 +121,83 @@ module _ (s : List ℕ) (at : ℕ) where
       go (gives (spot t first next)) f m = f .past
       go more f m = absurd (m refl)
       go (refused k vs) f m = absurd (m refl)
+
+-- ---- what a string that is given has between its quotes
+
+-- the place of its closing quote, from which its token follows
+pub record Ended (s : List ℕ) (at : ℕ) (t : Token) : Type 0 where
+  pub quote-at : ℕ
+  pub closes : closing (at + 1) (drop (at + 1) s) ≡ closesAt quote-at
+  pub whole : walk 0 (drop (at + 1) s) .end ≡ closed
+  pub token : t ≡ tokenOf s (at + 1) (quote-at - (at + 1))
+
+abbrev SaysEnded : List ℕ → ℕ → Paper (Spot Token) → Type 0
+SaysEnded s at (gives (spot t first next)) = Ended s at t
+SaysEnded s at more = Unit
+SaysEnded s at (refused n vs) = Unit
+
+module _ (s : List ℕ) (at : ℕ) where
+  ended-closed : (c : Closing) (x : End) → closing (at + 1) (drop (at + 1) s) ≡ c → walk 0 (drop (at + 1) s) .end ≡ x → SaysEnded s at (closedAs s at c)
+  ended-closed (closesAt q) closed e f = rw f (record { quote-at = q; closes = e; whole = f; token = refl })
+  ended-closed (closesAt q) badHex e f = rw f tt
+  ended-closed (closesAt q) cut e f = rw f tt
+  ended-closed unclosed x e f = tt
+
+  ended-says : SaysEnded s at (quotedAt s at)
+  unfolding quotedAt
+  ended-says = go (ltb (length s) at) (leb (length s) at)
+    where
+      go : (t u : Bool) → SaysEnded s at (pick t (refused beyondSlice []) (pick u more (closedAs s at (closing (at + 1) (drop (at + 1) s)))))
+      go true u = tt
+      go false true = tt
+      go false false = ended-closed _ _ refl refl
+
+  pub quoted-ended : (t : Token) (first next : ℕ) → quotedAt s at ≡ gives (spot t first next) → Ended s at t
+  quoted-ended t first next e = rw e at ended-says
+
+-- with no backslash before the closing quote the bytes stand as they are
+plain-bytes : (p : ℕ) (l : List ℕ) (q : ℕ) → closing p l ≡ closesAt q → stands backslash (take (q - p) l) ≡ false → walk 0 l .bytes ≡ take (q - p) l
+unfolding closing stands
+plain-bytes p [] q e n = absurd (let z : _≡_ {A = ℕ} 0 1 = cc in omega arith)
+plain-bytes p (b ∷ l) q e n = go (plain-bytes (p + 1) l q) (eqb b 34) (eqb b 92) refl refl
+  where
+    go : (closing (p + 1) l ≡ closesAt q → stands backslash (take (q - (p + 1)) l) ≡ false → walk 0 l .bytes ≡ take (q - (p + 1)) l)
+        → (t u : Bool) → eqb b 34 ≡ t → eqb b 92 ≡ u → walk 0 (b ∷ l) .bytes ≡ take (q - p) (b ∷ l)
+    go i true u f g = rw (none (rw f at e)) (ap (λ (w : Walk). w .bytes) (walk-quote-cons b l (eqb-true _ _ f)))
+      where
+        none : closesAt p ≡ closesAt q → q - p ≡ 0
+        none x = let z : p ≡ q = cc in omega arith
+    go i false true f g = absurd (hid (hidden-lies (p + 1) l q (rw (f, g) at e)))
+      where
+        hid : (p + 1 + 1 ≤ q) × (q < p + 1 + length l) → ⊥
+        hid z =
+            let x : true ≡ false = sym (stands-at backslash (b ∷ l) 0 (q - p) (omega arith) (omega arith) (eqb-true _ _ g)) ∙ n in
+            let y : _≡_ {A = ℕ} 1 0 = cc in omega arith
+    go i false false f g =
+        let c = rw (f, g) at e in
+        let z = closing-lies (p + 1) l q c in
+        let d : q - p ≡ suc (q - (p + 1)) = omega arith in
+        rw d
+        (ap (λ (w : Walk). w .bytes) (walk-plain-cons b l (eqb-false _ _ f) (eqb-false _ _ g))
+        ∙ ap (λ (m : List ℕ). b ∷ m) (i c (rest (rw d at n))))
+      where
+        rest : stands backslash (b ∷ take (q - (p + 1)) l) ≡ false → stands backslash (take (q - (p + 1)) l) ≡ false
+        rest m = rw g at m
+
+-- so the bytes of a string whose token says where they stand
+pub string-bytes : (s : List ℕ) (at : ℕ) (t : Token) (first next start len : ℕ) → quotedAt s at ≡ gives (spot t first next)
+    → extentOf t ≡ Plain start len → quotedBytes s at ≡ take len (drop start s)
+unfolding quotedBytes
+string-bytes s at t first next start len e x = go (quoted-ended s at t first next e)
+  where
+    go : Ended s at t → walk 0 (drop (at + 1) s) .bytes ≡ take len (drop start s)
+    go r = both (stands backslash (take (r .quote-at - (at + 1)) (drop (at + 1) s))) refl (sym (ap extentOf (r .token)) ∙ x)
+      where
+        both : (b : Bool) → stands backslash (take (r .quote-at - (at + 1)) (drop (at + 1) s)) ≡ b
+            → extentOf (pick b (Escaped (at + 1) (r .quote-at - (at + 1))) (String (at + 1) (r .quote-at - (at + 1)))) ≡ Plain start len
+            → walk 0 (drop (at + 1) s) .bytes ≡ take len (drop start s)
+        both true n f = absurd (let z : _≡_ {A = ℕ} 0 1 = cc in omega arith)
+        both false n f =
+            let a : at + 1 ≡ start = cc in
+            let l : r .quote-at - (at + 1) ≡ len = cc in
+            plain-bytes (at + 1) (drop (at + 1) s) (r .quote-at) (r .closes) n ∙ ap₂ (λ (k : ℕ) (p : ℕ). take k (drop p s)) l a

@@ -11,10 +11,10 @@ use lib.Dec.{eqb}
 use lib.ListN.{length, getD, drop, take}
 use Rattle.refusal.specs.Paper.{pick}
 use Rattle.search.specs.First.{first, firstFrom, isQuote}
-use Rattle.quoted.specs.Pieces.{Walk, giving, walk}
+use Rattle.pieces.specs.Pieces.{Walk, giving, walk}
 use Rattle.quoted.specs.Quoted.{closing, stands}
 use Rattle.quoted.specs.Inside.{plain}
-use Rattle.quoted.proofs.Places.{walk-plain-cons}
+use Rattle.pieces.proofs.Walks.{walk-plain-cons}
 
 -- bytes, and what the later pieces come to
 abbrev pub ahead : List ℕ → Walk → Walk

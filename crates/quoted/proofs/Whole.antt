@@ -13,12 +13,14 @@ use Rattle.refusal.specs.Paper.{pick}
 use Rattle.token.specs.Ends.{endOf}
 use Rattle.search.specs.First.{firstFrom, isQuote}
 use Rattle.search.proofs.Laws.{first-found, same-at-first}
-use Rattle.quoted.specs.Bytes.{hexDigit, octalDigit, isHex, isOctal}
-use Rattle.quoted.specs.Pieces.{End, closed, badHex, cut, Piece, byte, ends, hexOf, thirdOf, octalOf, escapeOf, Walk, walk}
+use Rattle.pieces.specs.Bytes.{hexDigit, octalDigit, isHex, isOctal}
+use Rattle.pieces.specs.Pieces.{End, closed, badHex, cut, Piece, byte, ends, hexOf, thirdOf, octalOf, escapeOf, Walk, walk}
 use Rattle.quoted.specs.Quoted.{Closing, closesAt, unclosed, closing, hidden, closedAs, quotedAt}
-use Rattle.quoted.specs.Inside.{pieceBy, wholeBy, wholeFrom, countBy, countOf}
-use Rattle.quoted.proofs.Digits.{by-whole}
-use Rattle.quoted.proofs.Places.{drop-more, close-quote, close-plain, walk-out, walk-quote, walk-plain, walk-byte, walk-failed}
+use Rattle.pieces.specs.Numbers.{pieceBy, countBy, countOf}
+use Rattle.quoted.specs.Inside.{wholeBy, wholeFrom}
+use Rattle.pieces.proofs.Digits.{by-whole}
+use Rattle.pieces.proofs.Walks.{drop-more, walk-out, walk-quote, walk-plain, walk-byte, walk-failed}
+use Rattle.quoted.proofs.Places.{close-quote, close-plain}
 use Rattle.quoted.proofs.Answers.{within}
 
 no : true ≡ false → ⊥

@@ -4,8 +4,8 @@ use mathlib.Core.Path.{_≡_, refl}
 use mathlib.Core.List.{List, [], _∷_, map}
 use Rattle.refusal.specs.Numbers.{badHexEscape}
 use Rattle.refusal.specs.Paper.{Paper, gives, more, refused, Got, got}
-use Rattle.quoted.specs.Bytes.{hexDigit, octalDigit}
-use Rattle.quoted.specs.Pieces.{hexOf, thirdOf, octalOf, escapeOf, pieceOf, walk}
+use Rattle.pieces.specs.Bytes.{hexDigit, octalDigit}
+use Rattle.pieces.specs.Pieces.{hexOf, thirdOf, octalOf, escapeOf, pieceOf, walk}
 use Rattle.quoted.specs.Quoted.{closing, stands, quotedAt, quotedBytes, quotedStringAt}
 
 -- a text whose first byte is the opening quote, and the string's bytes and the place after it

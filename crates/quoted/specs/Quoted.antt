@@ -8,8 +8,8 @@ use Rattle.refusal.specs.Numbers.{beyondSlice, badHexEscape}
 use Rattle.refusal.specs.Paper.{Paper, gives, more, refused, Got, got, Spot, spot, pick}
 use Rattle.token.specs.declared.Token.{Token}
 use Rattle.token.specs.declared.Token.the-variants.{String, Escaped}
-use Rattle.quoted.specs.Bytes.{quote, backslash}
-use Rattle.quoted.specs.Pieces.{End, closed, badHex, cut, Walk, walk}
+use Rattle.pieces.specs.Bytes.{quote, backslash}
+use Rattle.pieces.specs.Pieces.{End, closed, badHex, cut, Walk, walk}
 
 -- the place of the closing quote, if there is one
 pub data Closing : Type 0 where

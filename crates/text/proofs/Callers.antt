@@ -15,7 +15,7 @@ use Rattle.token.specs.declared.Token.{Token}
 use Rattle.token.specs.Marks.{markOf, ofMark}
 use Rattle.token.proofs.Sound.{Sound, pick-sound, mark-sound}
 use Rattle.blanks.specs.Skip.{skipFrom}
-use Rattle.quoted.specs.Bytes.{quote}
+use Rattle.pieces.specs.Bytes.{quote}
 use Rattle.quoted.specs.Quoted.{quotedAt}
 use Rattle.quoted.proofs.Laws.{quoted-gives, quoted-refuses}
 use Rattle.number.specs.Number.{numberAt}

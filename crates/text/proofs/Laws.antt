@@ -18,7 +18,7 @@ use Rattle.token.specs.Ends.{endOf, stringEnd, scalarEnd}
 use Rattle.token.specs.Strings.{stringFound}
 use Rattle.token.proofs.Ends.{holds, All, strings-end, strings-scalar, scalars-end, scalars-string, mark-no-string, mark-no-scalar}
 use Rattle.blanks.specs.Skip.{skipFrom}
-use Rattle.quoted.specs.Bytes.{quote}
+use Rattle.pieces.specs.Bytes.{quote}
 use Rattle.quoted.specs.Quoted.{quotedAt, quotedStringAt}
 use Rattle.quoted.proofs.Laws.{quoted-gives}
 use Rattle.number.specs.Bytes.{isDigit, isSign}

@@ -7,7 +7,7 @@ use Rattle.refusal.specs.Numbers.{beyondSlice}
 use Rattle.refusal.specs.Paper.{Paper, gives, more, refused, Got, pick}
 use Rattle.token.specs.Strings.{stringFound}
 use Rattle.blanks.specs.Skip.{skipFrom}
-use Rattle.quoted.specs.Bytes.{quote}
+use Rattle.pieces.specs.Bytes.{quote}
 use Rattle.quoted.specs.Quoted.{quotedStringAt}
 use Rattle.text.specs.Text.{started}
 

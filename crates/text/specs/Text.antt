@@ -10,7 +10,7 @@ use Rattle.token.specs.declared.Token.{Token}
 use Rattle.token.specs.declared.Token.the-variants.{String}
 use Rattle.token.specs.Marks.{markOf, ofMark}
 use Rattle.blanks.specs.Skip.{skipFrom}
-use Rattle.quoted.specs.Bytes.{quote}
+use Rattle.pieces.specs.Bytes.{quote}
 use Rattle.quoted.specs.Quoted.{quotedAt}
 use Rattle.number.specs.Bytes.{isDigit, isSign}
 use Rattle.number.specs.Number.{numberAt}

@@ -207,7 +207,7 @@ fn first_bytes(input: &[u8], p: usize, out: &mut [u8]) -> Unescaped
         return Unescaped::Incomplete;
     }
     if input[p] == b'"' {
-        return quoted::unescape(input, p, out);
+        return unescape::unescape(input, p, out);
     }
     match first_token(input, p) {
         Read::Token {

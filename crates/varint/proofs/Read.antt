@@ -4,8 +4,9 @@ use mathlib.Core.Path.{_≡_, refl, sym, ap, _∙_}
 use mathlib.Core.Logic.{⊎-elim}
 use mathlib.Core.Bool.{Bool, true, false, _&&_}
 use mathlib.Core.List.{List, [], _∷_}
-use Prim.Native.Nat.{ℕ, zero, suc, _+_, _*_, _%_, _^_, _≤_, _<_, zero-le}
+use Prim.Native.Nat.{ℕ, zero, suc, _+_, _*_, _%_, _^_, _-_, _≤_, _<_, zero-le}
 use native.Mathlib.Nat.{pow-suc, mul-assoc, pow-le-pow-right, le-trans}
+use native.Mathlib.Numerals.{add-one}
 use native.Mathlib.Omega.{arith}
 use lib.ListN.{length, take, drop, getD, length-drop}
 use lib.Seq.{length-take-le, getD-drop}
@@ -144,15 +145,136 @@ pub at-beyond : (s : List ℕ) (at : ℕ) → length s < at → uvarintAt s at �
 unfolding uvarintAt
 at-beyond s at h = rw (lt-ltb (length s) at h)
 
--- a tenth byte of 2 or more ends no number
-pub no-end : (at : ℕ) (t : List ℕ) → 9 ≤ run t → 9 < length t → 2 ≤ getD t 9 0 → getD t 9 0 < 256 → uvarintEnd (uvarint at t) ≡ 0
-no-end at t p q h k =
-    ⊎-elim (λ w. ap uvarintEnd (is-over at t p q (omega arith)))
+-- ---- the walk: what is known before byte i, with the number of the bytes passed and the weight of the next
+
+abbrev pub Passed : List ℕ → ℕ → ℕ → Type 0
+Passed s at i = (i ≤ 9) × (i ≤ length s - at) × (i ≤ run (drop at s))
+
+abbrev pub Summed : List ℕ → ℕ → ℕ → ℕ → ℕ → Type 0
+Summed s at i v w = (v ≡ number (take i (drop at s))) × (w ≡ 128 ^ i)
+
+-- nine bytes are passed
+pub nine-run : (s : List ℕ) (at i : ℕ) → Passed s at i → 9 ≤ i → 9 ≤ run (drop at s)
+nine-run s at i p k = omega arith
+
+pub nine-passed : (s : List ℕ) (at i v w : ℕ) → Passed s at i × Summed s at i v w → 9 ≤ i
+    → (9 ≤ run (drop at s)) × (v ≡ number (take 9 (drop at s)))
+nine-passed s at i v w (p, g) k =
+    let e : i ≡ 9 = omega arith in
+    (nine-run s at i p k, rw e at (g .0))
+
+module _ (s : List ℕ) (at i : ℕ) (h : at ≤ length s) (p : Passed s at i) where
+  -- the bytes end here
+  pub walk-more : length s - at ≤ i → uvarintAt s at ≡ more
+  walk-more k =
+      let n = length-drop at s in
+      at-is s at h ∙ is-more at (drop at s) (omega arith) (omega arith)
+
+  module _ (k : i < 9) (q : i < length s - at) where
+    byte-is : getD (drop at s) i 0 ≡ getD s (at + i) 0
+    byte-is = getD-drop at s i 0
+
+    -- one byte further
+    pub walk-on : 128 ≤ getD s (at + i) 0 → Passed s at (i + 1)
+    walk-on b =
+        let n = length-drop at s in
+        let e = byte-is in
+        let m = run-more i (drop at s) (p .2) (omega arith) (omega arith) in
+        (omega arith, omega arith, omega arith)
+
+    -- the last byte
+    pub walk-stop : getD s (at + i) 0 < 128
+        → uvarintAt s at ≡ giving (number (take i (drop at s)) + getD s (at + i) 0 % 128 * 128 ^ i) (at + i + 1)
+    walk-stop b =
+        let n = length-drop at s in
+        let e = byte-is in
+        at-is s at h ∙ is-value at i (drop at s) k (p .2) (omega arith) (omega arith) ∙ rw e (ap (giving _) (omega arith))
+
+    module _ (b v w : ℕ) (d : b ≡ getD s (at + i) 0) (g : Summed s at i v w) where
+      sum-is : v + b % 128 * w ≡ number (take i (drop at s)) + getD (drop at s) i 0 % 128 * 128 ^ i
+      sum-is = rw (d, g .0, g .1, byte-is)
+
+      -- the sum and the next weight fit
+      sum-small : v + b % 128 * w < 0x8000_0000_0000_0000
+      sum-small = let n = length-drop at s in rw sum-is (sum-lt i (drop at s) k (omega arith))
+
+      pub part-fits : b % 128 * w < 2 ^ 64
+      part-fits = let m = sum-small in omega arith
+
+      pub sum-fits : v + b % 128 * w < 2 ^ 64
+      sum-fits = let m = sum-small in omega arith
+
+      pub weight-fits : w * 128 < 2 ^ 64
+      weight-fits = omega (arith, g .1, pow-suc 128 i, nine (suc i) (omega arith))
+
+      pub sum-on : Summed s at (i + 1) (v + b % 128 * w) (w * 128)
+      sum-on =
+          let n = length-drop at s in
+          rw (add-one i) (sum-is ∙ sym (number-take i (drop at s) (omega arith)), omega (arith, g .1, pow-suc 128 i))
+
+      pub walk-value : b < 128 → giving (v + b % 128 * w) (at + i + 1) ≡ uvarintAt s at
+      walk-value l = rw (d, g .0, g .1) (sym (walk-stop (rw d at l)))
+
+-- ---- the tenth byte, after nine with the top bit set
+
+module _ (s : List ℕ) (at : ℕ) (p : 9 ≤ run (drop at s)) where
+  pub nine-there : at + 9 ≤ length s
+  nine-there = omega (arith, run-le (drop at s), length-drop at s)
+
+  pub ten-more : length s - at ≤ 9 → uvarintAt s at ≡ more
+  ten-more k =
+      let n = length-drop at s in
+      let g = nine-there in
+      at-is s at (omega arith) ∙ is-more at (drop at s) (omega arith) (omega arith)
+
+  pub nine-lt : 9 < length s - at → number (take 9 (drop at s)) < 0x8000_0000_0000_0000
+  nine-lt k =
+      let n = length-drop at s in
+      rw (length-take-le 9 (drop at s) (omega arith)) at (number-lt (take 9 (drop at s)))
+
+  module _ (k : 9 < length s - at) (b : ℕ) (d : b ≡ getD s (at + 9) 0) where
+    tenth-is : getD (drop at s) 9 0 ≡ b
+    tenth-is = getD-drop at s 9 0 ∙ sym d
+
+    pub ten-wide : 1 < b % 128 → uvarintAt s at ≡ refused wideVarint (at ∷ [])
+    ten-wide h =
+        let n = length-drop at s in
+        at-is s at (omega arith) ∙ is-over at (drop at s) p (omega arith) (rw tenth-is h)
+
+    module _ (h : b % 128 ≤ 1) where
+      pub ten-value : (v : ℕ) → v ≡ number (take 9 (drop at s)) → b < 128
+          → uvarintAt s at ≡ giving (v + b * 0x8000_0000_0000_0000) (at + 10)
+      ten-value v e l =
+          let n = length-drop at s in
+          at-is s at (omega arith) ∙ is-value-ten at (drop at s) p (omega arith) (rw tenth-is l) (rw tenth-is h)
+          ∙ rw (tenth-is, e) (ap (λ (x : ℕ). giving x (at + 10)) (omega arith))
+
+      pub ten-out : 128 ≤ b → length s - at ≤ 10 → uvarintAt s at ≡ more
+      ten-out l q =
+          let n = length-drop at s in
+          let r = run-more 9 (drop at s) p (omega arith) (rw tenth-is l) in
+          at-is s at (omega arith) ∙ is-more-ten at (drop at s) (omega arith) (omega arith) (rw tenth-is h)
+
+      pub ten-long : 128 ≤ b → 10 < length s - at → uvarintAt s at ≡ refused longVarint (at ∷ [])
+      ten-long l q =
+          let n = length-drop at s in
+          let r = run-more 9 (drop at s) p (omega arith) (rw tenth-is l) in
+          at-is s at (omega arith) ∙ is-long at (drop at s) r (omega arith) (rw tenth-is h)
+
+-- the end that it tells: a tenth byte of 2 or more ends no number
+pub ten-end : (s : List ℕ) (at : ℕ) → 9 ≤ run (drop at s) → 9 < length s - at → getD s (at + 9) 0 < 2 → uvarintEnd (uvarintAt s at) ≡ at + 10
+ten-end s at p k h = ap uvarintEnd (ten-value s at p k (getD s (at + 9) 0) refl (omega arith) _ refl (omega arith))
+
+pub ten-no-end : (s : List ℕ) (at : ℕ) → 9 ≤ run (drop at s) → 9 < length s - at → 2 ≤ getD s (at + 9) 0 → getD s (at + 9) 0 < 256
+    → uvarintEnd (uvarintAt s at) ≡ 0
+ten-no-end s at p k h q =
+    let b = getD s (at + 9) 0 in
+    ⊎-elim (λ w. ap uvarintEnd (ten-wide s at p k b refl w))
     (λ w.
-    let r = run-more 9 t p q (omega arith) in
-    ⊎-elim (λ l. ap uvarintEnd (is-long at t r (omega arith) (omega arith))) (λ l. ap uvarintEnd (is-more-ten at t (omega arith) (omega arith) (omega arith)))
-    (either 11 (length t)))
-    (either 2 (getD t 9 0 % 128))
+    let n : b % 128 ≤ 1 = omega arith in
+    ⊎-elim (λ l. ap uvarintEnd (ten-long s at p k b refl n (omega arith) l)) (λ l. ap uvarintEnd (ten-out s at p k b refl n (omega arith) (omega arith)))
+    (either 11 (length s - at)))
+    (either 2 (b % 128))
 
 -- a first byte without the top bit is the whole number
 pub one-byte : (s : List ℕ) (at : ℕ) → at < length s → getD s at 0 < 128 → uvarintAt s at ≡ giving (getD s at 0) (at + 1)

@@ -2,9 +2,10 @@
 // The definitions are `uvarintAt` and `varintAt` (specs/Varint.antt, specs/Zigzag.antt) for reading and `encode` (specs/Write.antt)
 // for writing, from the Protocol Buffers encoding document.
 ghost use mathlib.Core.Path.{_≡_};
-ghost use lib.ListN.{length};
+ghost use Prim.Native.Nat.{_≤_};
+ghost use lib.ListN.{length, take, drop};
 ghost use lib.Signed.{mag};
-ghost use Rattle.varint.specs.Varint.{uvarintAt, uvarintEnd};
+ghost use Rattle.varint.specs.Varint.{run, number, uvarintAt, uvarintEnd};
 ghost use Rattle.varint.specs.Zigzag.{signed, twos, zigzag, varintAt};
 ghost use Rattle.varint.specs.Write.{encode, writeAnswer, writeBytes};
 ghost use Rattle.varint.specs.Meaning.{uvarintMeaning, varintMeaning, writtenMeaning};
@@ -45,6 +46,35 @@ fn wide(x: u8) -> u64
     x as u64
 }
 
+// The unsigned varint that starts at `at` with nine bytes that have the top bit set, whose number is `value`.
+fn tenth(input: &[u8], at: usize, value: u64) -> Uvarint
+    requires { ⌜ (9 ≤ run (drop at (now input))) × (value ≡ number (take 9 (drop at (now input)))) ⌝ }
+    ensures { λ r. ⌜ uvarintMeaning r ≡ uvarintAt (now (input .entry)) at ⌝ }
+{
+    let left = input.len() - at;
+    if left <= 9 {
+        return Uvarint::More;
+    }
+    let last = wide(input[at + 9]);
+    if 1 < last % 128 {
+        return Uvarint::Refused {
+            refusal: Refusal::WideVarint { place: at },
+        };
+    }
+    if last < 128 {
+        return Uvarint::Value {
+            value: value + last * 0x8000_0000_0000_0000,
+            next: at + 10,
+        };
+    }
+    if left <= 10 {
+        return Uvarint::More;
+    }
+    Uvarint::Refused {
+        refusal: Refusal::LongVarint { place: at },
+    }
+}
+
 // The unsigned varint that starts at `at`. A refusal carries `at`.
 pub fn read_uvarint(input: &[u8], at: usize) -> Uvarint
     ensures { λ r. ⌜ uvarintMeaning r ≡ uvarintAt (now (input .entry)) at ⌝ }
@@ -71,27 +101,22 @@ pub fn read_uvarint(input: &[u8], at: usize) -> Uvarint
         weight *= 128;
         i += 1;
     }
+    tenth(input, at, value)
+}
+
+// The place after the varint that starts at `at` with nine bytes that have the top bit set; 0 where no whole one stands there.
+fn tenth_end(input: &[u8], at: usize) -> usize
+    requires { ⌜ 9 ≤ run (drop at (now input)) ⌝ }
+    ensures { λ r. ⌜ r ≡ uvarintEnd (uvarintAt (now (input .entry)) at) ⌝ }
+{
+    let left = input.len() - at;
     if left <= 9 {
-        return Uvarint::More;
+        return 0;
     }
-    let last = wide(input[at + 9]);
-    if 1 < last % 128 {
-        return Uvarint::Refused {
-            refusal: Refusal::WideVarint { place: at },
-        };
+    if input[at + 9] < 2 {
+        return at + 10;
     }
-    if last < 128 {
-        return Uvarint::Value {
-            value: value + last * 0x8000_0000_0000_0000,
-            next: at + 10,
-        };
-    }
-    if left <= 10 {
-        return Uvarint::More;
-    }
-    Uvarint::Refused {
-        refusal: Refusal::LongVarint { place: at },
-    }
+    0
 }
 
 // The place after the varint that starts at `at`, whose number is not asked for; 0 where no whole one stands there.
@@ -112,13 +137,7 @@ pub fn uvarint_end(input: &[u8], at: usize) -> usize
         }
         i += 1;
     }
-    if left <= 9 {
-        return 0;
-    }
-    if input[at + 9] < 2 {
-        return at + 10;
-    }
-    0
+    tenth_end(input, at)
 }
 
 // The signed number of a pattern of 64 bits, in two's complement.

@@ -1,45 +1,34 @@
-use mathlib.Core.Path.{_≡_, _∙_, sym, refl, ap₂}
+-- `read_uvarint` meets its contract: the bytes passed are read, as proofs/Read.antt says, and the tenth is left to `tenth`.
+use mathlib.Core.Path.{_≡_, _∙_, sym, refl}
 use denote.Ref.{now}
-use Prim.Native.Nat.{ℕ, suc, _≤_, _<_, _-_, _*_, _%_, _^_}
-use native.Mathlib.Nat.{pow-suc}
-use native.Mathlib.Numerals.{add-one}
+use Prim.Native.Nat.{_-_, zero-le}
 use native.Mathlib.Omega.{arith}
-use lib.ListN.{length, take, drop, getD, length-drop}
-use lib.Seq.{getD-drop, length-take-le}
 use borrow.Author.Needs.{needs}
-use borrow.Author.Tests.{lt-ltb, le-ltb}
-use Rattle.varint.specs.Varint.{run, number, uvarint, uvarintAt}
-use Rattle.varint.proofs.Read.{giving, run-more, number-take, number-lt, sum-lt, at-is, at-beyond, nine, is-over, is-long, is-more, is-more-ten, is-value, is-value-ten}
+use Rattle.varint.specs.Varint.{number}
+use Rattle.varint.proofs.Read.{Passed, Summed, at-beyond, walk-more, walk-on, nine-passed, part-fits, sum-fits, weight-fits, sum-on, walk-value}
 use Rattle.varint.proofs.read_uvarint.Statement.{statement}
 use Rattle.varint.proofs.read_uvarint.Tie as tie
 
 abbrev Inv-loop : tie.InvT-loop
-Inv-loop input at left value₀ weight₀ i₀ value weight i =
-    (i ≤ 9) × (i ≤ left) × (i ≤ run (drop at input)) × (value ≡ number (take i (drop at input))) × (weight ≡ 128 ^ i)
+Inv-loop input at left value₀ weight₀ i₀ value weight i = Passed input at i × Summed input at i value weight
 
 abbrev μ-loop : tie.MeasureT-loop
 μ-loop input at left value₀ weight₀ i₀ value weight i = 9 - i
 
 returns : tie.Need-returns Inv-loop μ-loop
-returns c =
-    let s = now (c .before .before .args .input) in
-    let a = c .before .before .args .at in
-    sym (at-beyond s a (c .if1 .taken))
+returns c = sym (at-beyond _ _ (c .if1 .taken))
 
 sub-left : tie.Need-sub-left Inv-loop μ-loop
-sub-left c = omega arith
+sub-left c = c .if1 .left
 
 loop-holds : tie.Need-loop-holds Inv-loop μ-loop
 unfolding number
-loop-holds c = (omega arith, omega arith, omega arith, refl, refl)
+loop-holds c = ((zero-le, zero-le, zero-le), (refl, refl))
 
 returns-2 : tie.Need-returns-2 Inv-loop μ-loop
 returns-2 c =
-    let s = now (c .before .before .before .before .before .args .input) in
-    let a = c .before .before .before .before .before .args .at in
     let l = c .before .before .loop in
-    let n = length-drop a s in
-    sym (at-is s a (omega arith) ∙ is-more a (drop a s) (omega arith) (omega arith))
+    sym (walk-more _ _ (l .i) (c .before .before .before .if1 .left) (l .inv .0) (c .if2 .taken))
 
 add-wide : tie.Need-add-wide Inv-loop μ-loop
 add-wide c = omega arith
@@ -52,42 +41,45 @@ wide-requires c κs = search needs
 
 mul-value : tie.Need-mul-value Inv-loop μ-loop
 mul-value c =
-    let s = now (c .before .before .before .before .before .before .before .args .input) in
-    let a = c .before .before .before .before .before .before .before .args .at in
-    let l = c .before .before .before .before .loop in
-    let n = length-drop a s in
-    let e : c .wide .result % 128 * l .weight ≡ getD (drop a s) (l .i) 0 % 128 * 128 ^ l .i = cc (getD-drop a s (l .i) 0) in
-    omega (arith, sum-lt (l .i) (drop a s) (omega arith) (omega arith))
+    let w = c in
+    let e = w .before .before in
+    let t = e .before in
+    let l = t .before .loop in
+    let b = t .before .before in
+    record { fits = part-fits _ _ (l .i) (b .if1 .left) (l .inv .0) (t .loop-test .taken) (e .if2 .left) (w .wide .result) (l .value) (l .weight) (w .wide .ensures) (l .inv .1) }
 
 add-value : tie.Need-add-value Inv-loop μ-loop
 add-value c =
-    let s = now (c .before .before .before .before .before .before .before .args .input) in
-    let a = c .before .before .before .before .before .before .before .args .at in
-    let l = c .before .before .before .before .loop in
-    let n = length-drop a s in
-    let e : c .wide .result % 128 * l .weight ≡ getD (drop a s) (l .i) 0 % 128 * 128 ^ l .i = cc (getD-drop a s (l .i) 0) in
-    omega (arith, sum-lt (l .i) (drop a s) (omega arith) (omega arith))
+    let w = c in
+    let e = w .before .before in
+    let t = e .before in
+    let l = t .before .loop in
+    let b = t .before .before in
+    record { fits = sum-fits _ _ (l .i) (b .if1 .left) (l .inv .0) (t .loop-test .taken) (e .if2 .left) (w .wide .result) (l .value) (l .weight) (w .wide .ensures) (l .inv .1) }
+
+add-t16 : tie.Need-add-t16 Inv-loop μ-loop
+add-t16 c = omega arith
 
 add-t17 : tie.Need-add-t17 Inv-loop μ-loop
 add-t17 c = omega arith
 
-add-t18 : tie.Need-add-t18 Inv-loop μ-loop
-add-t18 c = omega arith
-
 returns-3 : tie.Need-returns-3 Inv-loop μ-loop
 returns-3 c =
-    let s = now (c .before .before .before .before .before .before .before .before .args .input) in
-    let a = c .before .before .before .before .before .before .before .before .args .at in
-    let l = c .before .before .before .before .before .loop in
-    let n = length-drop a s in
-    let e : c .before .wide .result % 128 * l .weight ≡ getD (drop a s) (l .i) 0 % 128 * 128 ^ l .i = cc (getD-drop a s (l .i) 0) in
-    let b : getD (drop a s) (l .i) 0 < 128 = omega (arith, getD-drop a s (l .i) 0) in
-    ap₂ giving (omega arith) (omega arith) ∙ sym (at-is s a (omega arith) ∙ is-value a (l .i) (drop a s) (omega arith) (omega arith) (omega arith) b)
+    let w = c .before in
+    let e = w .before .before in
+    let t = e .before in
+    let l = t .before .loop in
+    let b = t .before .before in
+    walk-value _ _ (l .i) (b .if1 .left) (l .inv .0) (t .loop-test .taken) (e .if2 .left) (w .wide .result) (l .value) (l .weight) (w .wide .ensures) (l .inv .1) (c .if3 .taken)
 
 mul-weight : tie.Need-mul-weight Inv-loop μ-loop
 mul-weight c =
-    let l = c .before .before .before .before .before .loop in
-    omega (arith, pow-suc 128 (l .i), nine (suc (l .i)) (omega arith))
+    let w = c .before in
+    let e = w .before .before in
+    let t = e .before in
+    let l = t .before .loop in
+    let b = t .before .before in
+    record { fits = weight-fits _ _ (l .i) (b .if1 .left) (l .inv .0) (t .loop-test .taken) (e .if2 .left) (w .wide .result) (l .value) (l .weight) (w .wide .ensures) (l .inv .1) }
 
 add-i : tie.Need-add-i Inv-loop μ-loop
 add-i c = omega arith
@@ -97,96 +89,20 @@ loop-less c = omega arith
 
 loop-again : tie.Need-loop-again Inv-loop μ-loop
 loop-again c =
-    let s = now (c .before .before .before .before .before .before .before .before .args .input) in
-    let a = c .before .before .before .before .before .before .before .before .args .at in
-    let l = c .before .before .before .before .before .loop in
-    let n = length-drop a s in
-    let e : c .before .wide .result % 128 * l .weight ≡ getD (drop a s) (l .i) 0 % 128 * 128 ^ l .i = cc (getD-drop a s (l .i) 0) in
-    let m : suc (l .i) ≤ run (drop a s) = run-more (l .i) (drop a s) (omega arith) (omega arith) (omega (arith, getD-drop a s (l .i) 0)) in (
-      omega arith,
-      omega arith,
-      omega arith,
-      rw (add-one (l .i)) (omega (arith, number-take (l .i) (drop a s) (omega arith))),
-      rw (add-one (l .i)) (omega (arith, pow-suc 128 (l .i))),
-    )
+    let w = c .before in
+    let e = w .before .before in
+    let t = e .before in
+    let l = t .before .loop in
+    let b = t .before .before in
+    (walk-on _ _ (l .i) (b .if1 .left) (l .inv .0) (t .loop-test .taken) (e .if2 .left) (rw (w .wide .ensures) at (c .if3 .left)), sum-on _ _ (l .i) (b .if1 .left) (l .inv .0) (t .loop-test .taken) (e .if2 .left) (w .wide .result) (l .value) (l .weight) (w .wide .ensures) (l .inv .1))
+
+tenth-requires : tie.Need-tenth-requires Inv-loop μ-loop
+tenth-requires c κs =
+    let a = c .before .before .before .before .args in
+    nine-passed (now (a .input)) (a .at) (c .before .loop .i) (c .before .loop .value) (c .before .loop .weight) (c .before .loop .inv) (c .loop-test .left)
 
 returns-4 : tie.Need-returns-4 Inv-loop μ-loop
-returns-4 c =
-    let s = now (c .before .before .before .before .before .args .input) in
-    let a = c .before .before .before .before .before .args .at in
-    let l = c .before .before .loop in
-    let n = length-drop a s in
-    let m : l .i ≡ 9 = omega arith in
-    sym (at-is s a (omega arith) ∙ is-more a (drop a s) (omega arith) (omega arith))
-
-add-wide-2 : tie.Need-add-wide-2 Inv-loop μ-loop
-add-wide-2 c = omega arith
-
-shared-slice-read-wide-2 : tie.Need-shared-slice-read-wide-2 Inv-loop μ-loop
-shared-slice-read-wide-2 c = omega arith
-
-wide-requires-2 : tie.Need-wide-requires-2 Inv-loop μ-loop
-wide-requires-2 c κs = search needs
-
-returns-5 : tie.Need-returns-5 Inv-loop μ-loop
-returns-5 c =
-    let s = now (c .before .before .before .before .before .before .before .before .args .input) in
-    let a = c .before .before .before .before .before .before .before .before .args .at in
-    let l = c .before .before .before .before .before .loop in
-    let n = length-drop a s in
-    let m : l .i ≡ 9 = omega arith in
-    let g = getD-drop a s 9 0 in
-    sym (at-is s a (omega arith) ∙ is-over a (drop a s) (omega arith) (omega arith) (omega arith))
-
-mul-t23 : tie.Need-mul-t23 Inv-loop μ-loop
-mul-t23 c = omega arith
-
-add-t24 : tie.Need-add-t24 Inv-loop μ-loop
-add-t24 c =
-    let s = now (c .before .before .before .before .before .before .before .before .before .args .input) in
-    let a = c .before .before .before .before .before .before .before .before .before .args .at in
-    let l = c .before .before .before .before .before .before .loop in
-    let n = length-drop a s in
-    let m : l .i ≡ 9 = omega arith in
-    let v : l .value ≡ number (take 9 (drop a s)) = rw m at (l .inv .3) in
-    let k : length (take 9 (drop a s)) ≡ 9 = length-take-le 9 (drop a s) (omega arith) in
-    omega (arith, rw k at (number-lt (take 9 (drop a s))))
-
-add-t25 : tie.Need-add-t25 Inv-loop μ-loop
-add-t25 c = omega arith
-
-returns-6 : tie.Need-returns-6 Inv-loop μ-loop
-returns-6 c =
-    let s = now (c .before .before .before .before .before .before .before .before .before .args .input) in
-    let a = c .before .before .before .before .before .before .before .before .before .args .at in
-    let l = c .before .before .before .before .before .before .loop in
-    let n = length-drop a s in
-    let m : l .i ≡ 9 = omega arith in
-    let v : l .value ≡ number (take 9 (drop a s)) = rw m at (l .inv .3) in
-    let g = getD-drop a s 9 0 in
-    ap₂ giving (omega arith) refl ∙ sym (at-is s a (omega arith) ∙ is-value-ten a (drop a s) (omega arith) (omega arith) (omega arith) (omega arith))
-
-returns-7 : tie.Need-returns-7 Inv-loop μ-loop
-returns-7 c =
-    let s = now (c .before .before .before .before .before .before .before .before .before .before .args .input) in
-    let a = c .before .before .before .before .before .before .before .before .before .before .args .at in
-    let l = c .before .before .before .before .before .before .before .loop in
-    let n = length-drop a s in
-    let m : l .i ≡ 9 = omega arith in
-    let g = getD-drop a s 9 0 in
-    let r = run-more 9 (drop a s) (omega arith) (omega arith) (omega arith) in
-    sym (at-is s a (omega arith) ∙ is-more-ten a (drop a s) (omega arith) (omega arith) (omega arith))
-
-returns-8 : tie.Need-returns-8 Inv-loop μ-loop
-returns-8 c =
-    let s = now (c .before .before .before .before .before .before .before .before .before .before .args .input) in
-    let a = c .before .before .before .before .before .before .before .before .before .before .args .at in
-    let l = c .before .before .before .before .before .before .before .loop in
-    let n = length-drop a s in
-    let m : l .i ≡ 9 = omega arith in
-    let g = getD-drop a s 9 0 in
-    let r = run-more 9 (drop a s) (omega arith) (omega arith) (omega arith) in
-    sym (at-is s a (omega arith) ∙ is-long a (drop a s) (omega arith) (omega arith) (omega arith))
+returns-4 c = c .tenth .ensures
 
 pub read-uvarint-spec : {M : Type 1} → statement M
 read-uvarint-spec =
@@ -203,21 +119,12 @@ read-uvarint-spec =
     wide-requires
     mul-value
     add-value
+    add-t16
     add-t17
-    add-t18
     returns-3
     mul-weight
     add-i
     loop-less
     loop-again
-    returns-4
-    add-wide-2
-    shared-slice-read-wide-2
-    wide-requires-2
-    returns-5
-    mul-t23
-    add-t24
-    add-t25
-    returns-6
-    returns-7
-    returns-8)
+    tenth-requires
+    returns-4)

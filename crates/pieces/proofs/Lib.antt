@@ -1,0 +1,3 @@
+-- Laws of pieces, for the code and for callers.
+pub mod Digits
+pub mod Walks

@@ -1,0 +1,3 @@
+-- Laws of writing a string's bytes.
+mod Writes
+mod Answers

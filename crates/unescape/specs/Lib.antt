@@ -1,0 +1,2 @@
+-- What the private functions write.
+pub mod Overlay
