@@ -8,6 +8,8 @@ use native.Mathlib.Omega.{arith}
 use lib.Dec.{ltb}
 use lib.ListN.{length, getD}
 use borrow.Author.Tests.{lt-ltb, le-ltb}
+use types.Run.{OneOf, miss}
+use denote.Enum.Declared.{tagOf}
 use Rattle.refusal.specs.Paper.{Paper, gives, more, refused, Spot, spot, pick}
 use Rattle.refusal.specs.declared.Format.the-variants.{Binary}
 use Rattle.refusal.proofs.Cases.{either}
@@ -26,13 +28,19 @@ use Rattle.scan.proofs.Named.{wrong-named}
 use Rattle.scan.proofs.One.{named-means}
 use lib.ListN.{set}
 use Rattle.blocks.specs.declared.Due.{Due}
-use Rattle.blocks.specs.declared.Due.the-variants.{Item, Key}
-use Rattle.blocks.specs.declared.Move.the-variants.{OpenList, OpenMap, OpenAttributes, Finish, Wrong, Deep}
+use Rattle.blocks.specs.declared.Due.the-variants.{Value, Object, Item, Key, Equals}
+use Rattle.blocks.specs.declared.Move.the-variants.{OpenList, OpenMap, OpenAttributes, CloseItem, CloseKey, CloseObject, Stay, ToItem, ToKey, ToEquals, ToValue, Finish, Wrong, Deep}
 use Rattle.blocks.specs.Kept.{dueOf, blocksOf, blocksThen, noBlocks, openIn, byteOf}
 use Rattle.blocks.proofs.Stack.{blocks, then-open, then-close, then-keep}
 use Rattle.blocks.specs.Moves.{kindBy, around, wrongBy, stepOf, Apt, Moves}
 use Rattle.blocks.specs.Readings.{Reached, reached, Reader, Grows, Onward, onStep, onToken, readFor, readOn, readFrom, passOf, binary, notWhole}
+use Rattle.blocks.specs.Stops.{movedBy, keptBy}
+use Rattle.blocks.specs.declared.Stop.{Stop}
+use Rattle.blocks.specs.declared.Stop.the-variants.{Ended, Unread, Whole}
+use Rattle.blocks.specs.declared.Stop.the-variants as why
+use Rattle.blocks.proofs.Stop.{the-type}
 use Rattle.blocks.proofs.Firsts.{token-is, end-is}
+use Rattle.blocks.proofs.Ways.{Told}
 
 -- over any token reader whose tokens take a byte at least
 module _ (t : Reader) (G : Grows t) (s : List ℕ) where
@@ -123,6 +131,13 @@ module _ (s : List ℕ) where
           by more f w = ap (reached p (n + 1) b) (sym w)
           by (refused m vs) f w = ap (reached p (n + 1) b) (sym w)
 
+-- the moves that neither end the record nor are refused, by their numbers
+abbrev onward : List ℕ
+onward = 0 ∷ 1 ∷ 2 ∷ 3 ∷ 4 ∷ 5 ∷ 6 ∷ 7 ∷ 8 ∷ 9 ∷ 10 ∷ []
+
+abbrev pub Going : Move → Type 0
+Going r = Told onward r
+
 -- ---- each way of one reading of a whole token, from the place p with m blocks of the bytes ks open and d₀ due, to the place q
 
 module _ (s : List ℕ) (p m : ℕ) (d₀ : Due) (ks : List ℕ) (n q : ℕ) (e : q ≡ endOf (binaryFrom s p)) (l : p < length s) (h : q ≡ 0 → ⊥) (r : Move) (w : Moves (openIn m ks) m (dueOf d₀) (step (dueOf d₀) (openIn m ks) (kindBy (getD s p 0))) r) where
@@ -135,15 +150,15 @@ module _ (s : List ℕ) (p m : ℕ) (d₀ : Due) (ks : List ℕ) (n q : ℕ) (e 
   unfolding onStep
   on y g K d f b t = by y g ∙ ap (onStep (readOn binary s) p q p (blocks m d₀ ks) (n + 1)) f ∙ ap (λ (b : Blocks). readOn binary s q b (n + 1)) t
 
-  pub opens-list : r ≡ OpenList → readOn binary s p (blocks m d₀ ks) n ≡ readOn binary s q (blocks (m + 1) Item (set ks m 1)) (n + 1)
+  opens-list : r ≡ OpenList → readOn binary s p (blocks m d₀ ks) n ≡ readOn binary s q (blocks (m + 1) Item (set ks m 1)) (n + 1)
   unfolding byteOf
   opens-list g = on OpenList g (list ∷ openIn m ks) Item refl _ (then-open m ks d₀ Item list 1 refl)
 
-  pub opens-map : r ≡ OpenMap → readOn binary s p (blocks m d₀ ks) n ≡ readOn binary s q (blocks (m + 1) Key (set ks m 2)) (n + 1)
+  opens-map : r ≡ OpenMap → readOn binary s p (blocks m d₀ ks) n ≡ readOn binary s q (blocks (m + 1) Key (set ks m 2)) (n + 1)
   unfolding byteOf
   opens-map g = on OpenMap g (map ∷ openIn m ks) Key refl _ (then-open m ks d₀ Key map 2 refl)
 
-  pub opens-attributes : r ≡ OpenAttributes → readOn binary s p (blocks m d₀ ks) n ≡ readOn binary s q (blocks (m + 1) Key (set ks m 3)) (n + 1)
+  opens-attributes : r ≡ OpenAttributes → readOn binary s p (blocks m d₀ ks) n ≡ readOn binary s q (blocks (m + 1) Key (set ks m 3)) (n + 1)
   unfolding byteOf
   opens-attributes g = on OpenAttributes g (attributes ∷ openIn m ks) Key refl _ (then-open m ks d₀ Key attributes 3 refl)
 
@@ -151,11 +166,31 @@ module _ (s : List ℕ) (p m : ℕ) (d₀ : Due) (ks : List ℕ) (n q : ℕ) (e 
   pub apt-as : (y : Move) → r ≡ y → Apt y m
   apt-as y g = rw g at (w .apt)
 
-  pub closes : (y : Move) (d : Due) → r ≡ y → stepOf y (dueOf d₀) (openIn m ks) ≡ go (around (openIn m ks)) (dueOf d) → 0 < m → readOn binary s p (blocks m d₀ ks) n ≡ readOn binary s q (blocks (m - 1) d (set ks (m - 1) 0)) (n + 1)
+  closes : (y : Move) (d : Due) → r ≡ y → stepOf y (dueOf d₀) (openIn m ks) ≡ go (around (openIn m ks)) (dueOf d) → 0 < m → readOn binary s p (blocks m d₀ ks) n ≡ readOn binary s q (blocks (m - 1) d (set ks (m - 1) 0)) (n + 1)
   closes y d g f a = on y g (around (openIn m ks)) d f _ (then-close m ks d₀ d (λ z. omega arith))
 
-  pub keeps : (y : Move) (d : Due) → r ≡ y → stepOf y (dueOf d₀) (openIn m ks) ≡ go (openIn m ks) (dueOf d) → readOn binary s p (blocks m d₀ ks) n ≡ readOn binary s q (blocks m d ks) (n + 1)
+  keeps : (y : Move) (d : Due) → r ≡ y → stepOf y (dueOf d₀) (openIn m ks) ≡ go (openIn m ks) (dueOf d) → readOn binary s p (blocks m d₀ ks) n ≡ readOn binary s q (blocks m d ks) (n + 1)
   keeps y d g f = on y g (openIn m ks) d f _ (then-keep m ks d₀ d)
+
+  -- the readings go on behind a move that neither ends the record nor is refused
+  goes-as : (y : Move) → r ≡ y → Going y → readOn binary s p (blocks m d₀ ks) n ≡ readOn binary s q (movedBy y m d₀ ks) (n + 1)
+  goes-as OpenList g h = opens-list g
+  goes-as OpenMap g h = opens-map g
+  goes-as OpenAttributes g h = opens-attributes g
+  goes-as CloseItem g h = closes CloseItem Item g refl (apt-as CloseItem g)
+  goes-as CloseKey g h = closes CloseKey Key g refl (apt-as CloseKey g)
+  goes-as CloseObject g h = closes CloseObject Object g refl (apt-as CloseObject g)
+  goes-as Stay g h = keeps Stay d₀ g refl
+  goes-as ToItem g h = keeps ToItem Item g refl
+  goes-as ToKey g h = keeps ToKey Key g refl
+  goes-as ToEquals g h = keeps ToEquals Equals g refl
+  goes-as ToValue g h = keeps ToValue Value g refl
+  goes-as Finish g h = absurd (miss onward 11 tt h)
+  goes-as Wrong g h = absurd (miss onward 12 tt h)
+  goes-as Deep g h = absurd (miss onward 13 tt h)
+
+  pub goes : Going r → readOn binary s p (blocks m d₀ ks) n ≡ readOn binary s q (movedBy r m d₀ ks) (n + 1)
+  goes = goes-as r refl
 
   pub finishes : r ≡ Finish → readOn binary s p (blocks m d₀ ks) n ≡ reached q (n + 1) noBlocks (gives q)
   unfolding onStep
@@ -181,3 +216,12 @@ pass-few s p b h = rw (le-ltb mostOpen (b .depth) h)
 pub pass-many : (s : List ℕ) (p : ℕ) (b : Blocks) → mostOpen < b .depth → passOf s p b ≡ reached p 0 b more
 unfolding passOf
 pass-many s p b h = rw (lt-ltb mostOpen (b .depth) h)
+
+-- ---- the blocks that stay open where a run stops
+
+pub kept-open : (x : Stop) → OneOf (0 ∷ 1 ∷ 3 ∷ 4 ∷ []) (tagOf the-type x) → (b : Blocks) → keptBy x b ≡ b
+kept-open Ended h b = refl
+kept-open Unread h b = refl
+kept-open Whole h b = absurd (miss (0 ∷ 1 ∷ 3 ∷ 4 ∷ []) 2 tt h)
+kept-open why.Wrong h b = refl
+kept-open why.Deep h b = refl

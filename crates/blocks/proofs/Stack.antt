@@ -15,7 +15,7 @@ use Rattle.scan.specs.Step as automaton
 use Rattle.blocks.specs.declared.Blocks.{Blocks}
 use Rattle.blocks.specs.declared.Due.{Due}
 use Rattle.blocks.specs.declared.Due.the-variants.{Value, Object, Item, Key, Equals}
-use Rattle.blocks.specs.Kept.{blockOf, byteOf, openIn, blocksOf, dueOf, keptDue, innermost, kindsThen, blocksThen, kindsKnown, takes, dueFits, blocksFit}
+use Rattle.blocks.specs.Kept.{blockOf, byteOf, openIn, blocksOf, dueOf, keptDue, innermost, kindsThen, blocksThen, kindKnown, kindsKnown, takes, dueFits, blocksFit}
 use Rattle.blocks.specs.Moves.{around}
 
 -- ---- the stack
@@ -96,18 +96,35 @@ module _ (k : ℕ) (h : k ≡ 1 → ⊥) (K : List Block) where
       by true = e
       by false = f
 
-pub takes-none : (ks : List ℕ) (n : ℕ) → n ≡ 0 → (e d : Due) → d ≡ e → takes (openIn n ks) (dueOf d) ≡ takes [] (dueOf e)
-takes-none ks n h e d f = rw (open-none ks n h, f)
+pub takes-none : (ks : List ℕ) (n : ℕ) → n ≡ 0 → (d : Due) → takes (openIn n ks) (dueOf d) ≡ takes [] (dueOf d)
+takes-none ks n h d = ap (λ (K : List Block). takes K (dueOf d)) (open-none ks n h)
 
-pub takes-list : (ks : List ℕ) (n : ℕ) → (n ≡ 0 → ⊥) → getD ks (n - 1) 0 ≡ 1 → (e d : Due) → d ≡ e → takes (openIn n ks) (dueOf d) ≡ takes (list ∷ openIn (n - 1) ks) (dueOf e)
-takes-list ks n h g e d f = rw (on-list ks n h g, f)
+pub takes-list : (ks : List ℕ) (n : ℕ) → (n ≡ 0 → ⊥) → getD ks (n - 1) 0 ≡ 1 → (d : Due) → takes (openIn n ks) (dueOf d) ≡ takes (list ∷ openIn (n - 1) ks) (dueOf d)
+takes-list ks n h g d = ap (λ (K : List Block). takes K (dueOf d)) (on-list ks n h g)
 
-pub takes-other : (ks : List ℕ) (n : ℕ) → (n ≡ 0 → ⊥) → (getD ks (n - 1) 0 ≡ 1 → ⊥) → (e d : Due) → d ≡ e → (x : Bool) → takes (map ∷ openIn (n - 1) ks) (dueOf e) ≡ x → takes (attributes ∷ openIn (n - 1) ks) (dueOf e) ≡ x → takes (openIn n ks) (dueOf d) ≡ x
-takes-other ks n h g e d f x a b = rw (open-some ks n h, f) (other-takes _ g (openIn (n - 1) ks) (dueOf e) x a b)
+pub takes-other : (ks : List ℕ) (n : ℕ) → (n ≡ 0 → ⊥) → (getD ks (n - 1) 0 ≡ 1 → ⊥) → (d : Due) (x : Bool) → takes (map ∷ openIn (n - 1) ks) (dueOf d) ≡ x → takes (attributes ∷ openIn (n - 1) ks) (dueOf d) ≡ x → takes (openIn n ks) (dueOf d) ≡ x
+takes-other ks n h g d x a b = ap (λ (K : List Block). takes K (dueOf d)) (open-some ks n h) ∙ other-takes _ g (openIn (n - 1) ks) (dueOf d) x a b
 
 -- ---- known kinds
 
-pub known-turn : (ks : List ℕ) (n : ℕ) → 0 < n → kindsKnown n ks ≡ pick (eqb (getD ks (n - 1) 0) 0) false (pick (ltb 3 (getD ks (n - 1) 0)) false (kindsKnown (n - 1) ks))
+-- by the code's tests
+kind-none : (k : ℕ) → k ≡ 0 → kindKnown k ≡ false
+unfolding kindKnown
+kind-none k e = ap kindKnown e
+
+kind-above : (k : ℕ) → 3 < k → kindKnown k ≡ false
+unfolding kindKnown
+kind-above k h = rw (ne-eqb k 1 (λ e. omega arith), ne-eqb k 2 (λ e. omega arith), ne-eqb k 3 (λ e. omega arith)) refl
+
+kind-there : (k : ℕ) → (k ≡ 0 → ⊥) → k ≤ 3 → kindKnown k ≡ true
+unfolding kindKnown
+kind-there zero h g = absurd (h refl)
+kind-there (suc zero) h g = refl
+kind-there (suc (suc zero)) h g = refl
+kind-there (suc (suc (suc zero))) h g = refl
+kind-there (suc (suc (suc (suc k)))) h g = absurd (omega arith)
+
+known-turn : (ks : List ℕ) (n : ℕ) → 0 < n → kindsKnown n ks ≡ (kindKnown (getD ks (n - 1) 0) && kindsKnown (n - 1) ks)
 unfolding kindsKnown
 known-turn ks zero h = absurd (omega arith)
 known-turn ks (suc n) h = let e : suc n - 1 ≡ n = omega arith in rw e refl
@@ -115,6 +132,34 @@ known-turn ks (suc n) h = let e : suc n - 1 ≡ n = omega arith in rw e refl
 pub known-end : (ks : List ℕ) (n : ℕ) → n ≡ 0 → kindsKnown n ks ≡ true
 unfolding kindsKnown
 known-end ks n e = ap (λ (m : ℕ). kindsKnown m ks) e
+
+module _ (ks : List ℕ) (n : ℕ) (h : 0 < n) where
+  by-kind : (t : Bool) → kindKnown (getD ks (n - 1) 0) ≡ t → kindsKnown n ks ≡ (t && kindsKnown (n - 1) ks)
+  by-kind t e = known-turn ks n h ∙ ap (λ (t : Bool). t && kindsKnown (n - 1) ks) e
+
+  pub known-none : getD ks (n - 1) 0 ≡ 0 → kindsKnown n ks ≡ false
+  known-none e = by-kind false (kind-none _ e)
+
+  pub known-above : 3 < getD ks (n - 1) 0 → kindsKnown n ks ≡ false
+  known-above g = by-kind false (kind-above _ g)
+
+  pub known-there : (getD ks (n - 1) 0 ≡ 0 → ⊥) → getD ks (n - 1) 0 ≤ 3 → kindsKnown n ks ≡ kindsKnown (n - 1) ks
+  known-there e g = by-kind true (kind-there _ e g)
+
+-- the kind of a block is known, and so are those of fewer blocks
+pub known-byte : (x : Block) → kindKnown (byteOf x) ≡ true
+unfolding byteOf kindKnown
+known-byte list = refl
+known-byte map = refl
+known-byte attributes = refl
+
+pub known-less : (ks : List ℕ) (n : ℕ) → kindsKnown (suc n) ks ≡ true → kindsKnown n ks ≡ true
+unfolding kindsKnown
+known-less ks n e = by (kindKnown (getD ks n 0)) e
+  where
+    by : (t : Bool) → t && kindsKnown n ks ≡ true → kindsKnown n ks ≡ true
+    by true e = e
+    by false e = let z : _≡_ {A = ℕ} 0 1 = cc in absurd (omega arith)
 
 -- ---- 28's tests of the blocks, one by one
 

@@ -1,12 +1,15 @@
 -- Each way through the code that decides what a token does, over plain variables. Assumes nothing.
 use mathlib.Core.Path.{_≡_, refl, sym, ap, _∙_}
-use mathlib.Core.Bool.{true, false}
+use mathlib.Core.Bool.{Bool, true, false}
 use mathlib.Core.Logic.{⊎-elim}
-use mathlib.Core.List.{List, _∷_}
+use mathlib.Core.List.{List, [], _∷_}
 use Prim.Native.Nat.{ℕ, _-_, _≤_, _<_}
 use native.Mathlib.Omega.{arith}
 use lib.ListN.{length, getD}
 use borrow.Author.Tests.{eq-eqb, ne-eqb}
+use types.Run.{OneOf, miss}
+use denote.Enum.Declared.{tagOf}
+use Rattle.refusal.specs.Paper.{pick}
 use Rattle.refusal.proofs.Cases.{either}
 use Rattle.token.specs.declared.Kind.{Kind}
 use Rattle.token.specs.declared.Kind.the-variants as kind
@@ -16,9 +19,11 @@ use Rattle.scan.specs.Step as automaton
 use Rattle.scan.proofs.Arms.{too-deep, not-deep}
 use Rattle.blocks.specs.declared.Due.{Due}
 use Rattle.blocks.specs.declared.Move.{Move}
-use Rattle.blocks.specs.declared.Move.the-variants.{OpenList, OpenMap, OpenAttributes, CloseItem, CloseKey, CloseObject, ToItem, ToKey, Finish, Wrong}
+use Rattle.blocks.specs.declared.Move.the-variants.{OpenList, OpenMap, OpenAttributes, CloseItem, CloseKey, CloseObject, Stay, ToItem, ToKey, ToEquals, ToValue, Finish, Wrong, Deep}
 use Rattle.blocks.specs.Kept.{openIn, dueOf}
-use Rattle.blocks.specs.Moves.{kindBy, around, valueDue, wrongBy, roomFor, Moves, Follows}
+use Rattle.blocks.specs.Moves.{kindBy, around, valueDue, wrongBy, roomFor, beginsValue, Apt, Moves, Follows}
+use Rattle.blocks.specs.Stops.{blocksWith, movedBy}
+use Rattle.blocks.proofs.Move.{the-type}
 use Rattle.blocks.proofs.Stack.{open-none, open-some, on-list, on-map, on-attributes, around-is, after-other, list-other, map-other}
 
 module _ {K : List automaton.Block} {n : ℕ} where
@@ -56,7 +61,7 @@ module _ (K : List automaton.Block) where
   scalar-there key e = let z : _≡_ {A = ℕ} 0 1 = cc in absurd (omega arith)
   scalar-there equals e = let z : _≡_ {A = ℕ} 0 1 = cc in absurd (omega arith)
 
-  pub list-not : (d : automaton.Due) → valueDue d ≡ false → step d K kind.OpenList ≡ wrong (wrongBy d)
+  list-not : (d : automaton.Due) → valueDue d ≡ false → step d K kind.OpenList ≡ wrong (wrongBy d)
   unfolding step onValue onObject onItem onKey onEquals
   list-not value e = let z : _≡_ {A = ℕ} 0 1 = cc in absurd (omega arith)
   list-not object e = let z : _≡_ {A = ℕ} 0 1 = cc in absurd (omega arith)
@@ -64,7 +69,7 @@ module _ (K : List automaton.Block) where
   list-not key e = refl
   list-not equals e = refl
 
-  pub list-there : (d : automaton.Due) → valueDue d ≡ true → step d K kind.OpenList ≡ opened list item K
+  list-there : (d : automaton.Due) → valueDue d ≡ true → step d K kind.OpenList ≡ opened list item K
   unfolding step onValue onObject onItem onKey onEquals
   list-there value e = refl
   list-there object e = refl
@@ -72,7 +77,7 @@ module _ (K : List automaton.Block) where
   list-there key e = let z : _≡_ {A = ℕ} 0 1 = cc in absurd (omega arith)
   list-there equals e = let z : _≡_ {A = ℕ} 0 1 = cc in absurd (omega arith)
 
-  pub map-not : (d : automaton.Due) → valueDue d ≡ false → step d K kind.OpenMap ≡ wrong (wrongBy d)
+  map-not : (d : automaton.Due) → valueDue d ≡ false → step d K kind.OpenMap ≡ wrong (wrongBy d)
   unfolding step onValue onObject onItem onKey onEquals
   map-not value e = let z : _≡_ {A = ℕ} 0 1 = cc in absurd (omega arith)
   map-not object e = let z : _≡_ {A = ℕ} 0 1 = cc in absurd (omega arith)
@@ -80,7 +85,7 @@ module _ (K : List automaton.Block) where
   map-not key e = refl
   map-not equals e = refl
 
-  pub map-there : (d : automaton.Due) → valueDue d ≡ true → step d K kind.OpenMap ≡ opened map key K
+  map-there : (d : automaton.Due) → valueDue d ≡ true → step d K kind.OpenMap ≡ opened map key K
   unfolding step onValue onObject onItem onKey onEquals
   map-there value e = refl
   map-there object e = refl
@@ -98,15 +103,19 @@ module _ (n : ℕ) (K : List automaton.Block) (l : length K ≡ n) (h : n ≤ mo
       (λ g. rw (ne-eqb n mostOpen (λ z. omega arith)) (moves-as (not-deep x e K (omega arith)) (f g d)))
       (either mostOpen n)
 
-  module _ {r : Move} where
-    pub begun-list : r ≡ roomFor n OpenList → Follows K n (opened list item K) r
-    begun-list e d = rw e (begun OpenList list item (λ g d. record { steps = refl; apt = g }) d)
+  pub attributes-begun : {r : Move} → r ≡ roomFor n OpenAttributes → Follows K n (opened attributes key K) r
+  attributes-begun e d = rw e (begun OpenAttributes attributes key (λ g d. record { steps = refl; apt = g }) d)
 
-    pub begun-map : r ≡ roomFor n OpenMap → Follows K n (opened map key K) r
-    begun-map e d = rw e (begun OpenMap map key (λ g d. record { steps = refl; apt = g }) d)
+  -- a block that begins a value
+  value-begun : (y : Move) (x : automaton.Block) (e : automaton.Due) → (n < mostOpen → Follows K n (go (x ∷ K) e) y) → (t : Kind) (d : automaton.Due) → (valueDue d ≡ true → step d K t ≡ opened x e K) → (valueDue d ≡ false → step d K t ≡ wrong (wrongBy d)) → (q : Bool) → valueDue d ≡ q → Moves K n d (step d K t) (pick q (roomFor n y) Wrong)
+  value-begun y x e f t d there not true h = moves-as (there h) (begun y x e f d)
+  value-begun y x e f t d there not false h = wrong-is (not h)
 
-    pub begun-attributes : r ≡ roomFor n OpenAttributes → Follows K n (opened attributes key K) r
-    begun-attributes e d = rw e (begun OpenAttributes attributes key (λ g d. record { steps = refl; apt = g }) d)
+  pub list-begun : {r : Move} (d : automaton.Due) → r ≡ beginsValue n d OpenList → Moves K n d (step d K kind.OpenList) r
+  list-begun d g = rw g (value-begun OpenList list item (λ g d. record { steps = refl; apt = g }) kind.OpenList d (list-there K d) (list-not K d) (valueDue d) refl)
+
+  pub map-begun : {r : Move} (d : automaton.Due) → r ≡ beginsValue n d OpenMap → Moves K n d (step d K kind.OpenMap) r
+  map-begun d g = rw g (value-begun OpenMap map key (λ g d. record { steps = refl; apt = g }) kind.OpenMap d (map-there K d) (map-not K d) (valueDue d) refl)
 
 module _ (ks : List ℕ) (n : ℕ) where
   abbrev K₀ : List automaton.Block
@@ -191,3 +200,45 @@ module _ (ks : List ℕ) (n : ℕ) where
     pub attributes-ended : (getD ks (n - 1) 0 ≡ 1 → ⊥) → (getD ks (n - 1) 0 ≡ 2 → ⊥) → Moves K₀ n key (step key K₀ kind.CloseAttributes) CloseObject
     unfolding step onKey endAttributes closed
     attributes-ended k l = record { steps = rw (around-is ks n h) (sym (ap endAttributes (on-attributes ks n h k l))); apt = omega arith }
+
+-- ---- what a move leaves
+
+pub apt-is : (n : ℕ) (r y : Move) → r ≡ y → Apt r n → Apt y n
+apt-is n r y e a = rw e at a
+
+-- a move is one of those with these numbers
+abbrev pub Told : List ℕ → Move → Type 0
+Told ks r = OneOf ks (tagOf the-type r)
+
+pub moved-none : (r : Move) → Told (6 ∷ 11 ∷ 12 ∷ 13 ∷ []) r → (n : ℕ) (d : Due) (ks : List ℕ) → movedBy r n d ks ≡ blocksWith n d ks
+moved-none OpenList h n d ks = absurd (miss (6 ∷ 11 ∷ 12 ∷ 13 ∷ []) 0 tt h)
+moved-none OpenMap h n d ks = absurd (miss (6 ∷ 11 ∷ 12 ∷ 13 ∷ []) 1 tt h)
+moved-none OpenAttributes h n d ks = absurd (miss (6 ∷ 11 ∷ 12 ∷ 13 ∷ []) 2 tt h)
+moved-none CloseItem h n d ks = absurd (miss (6 ∷ 11 ∷ 12 ∷ 13 ∷ []) 3 tt h)
+moved-none CloseKey h n d ks = absurd (miss (6 ∷ 11 ∷ 12 ∷ 13 ∷ []) 4 tt h)
+moved-none CloseObject h n d ks = absurd (miss (6 ∷ 11 ∷ 12 ∷ 13 ∷ []) 5 tt h)
+moved-none Stay h n d ks = refl
+moved-none ToItem h n d ks = absurd (miss (6 ∷ 11 ∷ 12 ∷ 13 ∷ []) 7 tt h)
+moved-none ToKey h n d ks = absurd (miss (6 ∷ 11 ∷ 12 ∷ 13 ∷ []) 8 tt h)
+moved-none ToEquals h n d ks = absurd (miss (6 ∷ 11 ∷ 12 ∷ 13 ∷ []) 9 tt h)
+moved-none ToValue h n d ks = absurd (miss (6 ∷ 11 ∷ 12 ∷ 13 ∷ []) 10 tt h)
+moved-none Finish h n d ks = refl
+moved-none Wrong h n d ks = refl
+moved-none Deep h n d ks = refl
+
+-- not more blocks than may be open
+pub moved-few : (r : Move) (n : ℕ) (d : Due) (ks : List ℕ) → Apt r n → n ≤ mostOpen → movedBy r n d ks .depth ≤ mostOpen
+moved-few OpenList n d ks a h = omega arith
+moved-few OpenMap n d ks a h = omega arith
+moved-few OpenAttributes n d ks a h = omega arith
+moved-few CloseItem n d ks a h = omega arith
+moved-few CloseKey n d ks a h = omega arith
+moved-few CloseObject n d ks a h = omega arith
+moved-few Stay n d ks a h = h
+moved-few ToItem n d ks a h = h
+moved-few ToKey n d ks a h = h
+moved-few ToEquals n d ks a h = h
+moved-few ToValue n d ks a h = h
+moved-few Finish n d ks a h = h
+moved-few Wrong n d ks a h = h
+moved-few Deep n d ks a h = h

@@ -1,6 +1,6 @@
 -- The open blocks as a state keeps them: one byte for each, the outermost first, and what is due in the innermost.
 use Prim.Native.Nat.{ℕ, zero, suc, _-_}
-use mathlib.Core.Bool.{Bool, true, false, _&&_}
+use mathlib.Core.Bool.{Bool, true, false, _&&_, _||_}
 use mathlib.Core.List.{List, [], _∷_}
 use lib.Dec.{eqb, ltb, leb}
 use lib.ListN.{length, getD, set, replicate}
@@ -63,21 +63,32 @@ unfoldable pub innermost : List Block → ℕ
 innermost [] = 0
 innermost (x ∷ K) = byteOf x
 
--- the bytes behind a token: a block that it opens is written in its slot, and the slot of one that it ends is cleared
+-- a token that leaves the blocks K open has opened one, or ended one
+abbrev pub opensOne : Blocks → List Block → Bool
+opensOne b K = ltb (b .depth) (length K)
+
+abbrev pub endsOne : Blocks → List Block → Bool
+endsOne b K = ltb (length K) (b .depth)
+
+-- the bytes behind it: a block that it opened has its byte behind the others, the byte of one that it ended is 0 again, and else they stay
 unfoldable pub kindsThen : Blocks → List Block → List ℕ
 kindsThen b K =
-    pick (ltb (b .depth) (length K)) (set (b .kinds) (b .depth) (innermost K))
-    (pick (ltb (length K) (b .depth)) (set (b .kinds) (b .depth - 1) 0)
+    pick (opensOne b K) (set (b .kinds) (b .depth) (innermost K))
+    (pick (endsOne b K) (set (b .kinds) (b .depth - 1) 0)
     (b .kinds))
 
 -- the open blocks behind a token that leaves the blocks K open and the part d due
 abbrev pub blocksThen : Blocks → List Block → automaton.Due → Blocks
 blocksThen b K d = record { depth = length K; due = keptDue d; kinds = kindsThen b K }
 
--- each of the first n bytes is the byte of a kind
+-- the byte of a list, a map or an attribute block
+unfoldable pub kindKnown : ℕ → Bool
+kindKnown k = eqb k listByte || eqb k mapByte || eqb k attributesByte
+
+-- the kind of each of the first n blocks is known
 unfoldable pub kindsKnown : ℕ → List ℕ → Bool
 kindsKnown zero kinds = true
-kindsKnown (suc n) kinds = pick (eqb (getD kinds n 0) 0) false (pick (ltb attributesByte (getD kinds n 0)) false (kindsKnown n kinds))
+kindsKnown (suc n) kinds = kindKnown (getD kinds n 0) && kindsKnown n kinds
 
 -- what the innermost block, or none, takes: a value and the object behind its attributes where no block is open, an item and such an
 -- object in a list, and in a map or an attribute block a key, `=`, the value and its object

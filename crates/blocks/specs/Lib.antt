@@ -2,3 +2,4 @@
 pub mod Kept
 pub mod Moves
 pub mod Readings
+pub mod Stops

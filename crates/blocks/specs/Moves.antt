@@ -105,3 +105,7 @@ Among n d k r = (K : List automaton.Block) → length K ≡ n → Moves K n (due
 -- the move that opens a block where n are open, unless these are as many as may be
 abbrev pub roomFor : ℕ → Move → Move
 roomFor n y = pick (eqb n mostOpen) Deep y
+
+-- the same where a value is due, and else a wrong token
+abbrev pub beginsValue : ℕ → automaton.Due → Move → Move
+beginsValue n d y = pick (valueDue d) (roomFor n y) Wrong

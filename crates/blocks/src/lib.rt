@@ -9,8 +9,9 @@ ghost use Rattle.scan.specs.Limit.{mostOpen};
 ghost use Rattle.scan.specs.Step.{after, step};
 ghost use Rattle.token.specs.declared.Kind.the-variants as kind;
 ghost use Rattle.blocks.specs.Kept.{dueOf, openIn, noBlocks, kindsKnown, takes, blocksFit};
-ghost use Rattle.blocks.specs.Moves.{kindBy, around, valueDue, wrongBy, Moves, Follows, Anywhere, Among, roomFor};
-ghost use Rattle.blocks.specs.Readings.{passOf, runMeaning, whatMeaning, notWhole};
+ghost use Rattle.blocks.specs.Moves.{kindBy, around, valueDue, wrongBy, Apt, Moves, Follows, Anywhere, Among, roomFor, beginsValue};
+ghost use Rattle.blocks.specs.Readings.{passOf, readFrom, runMeaning, whatMeaning, notWhole};
+ghost use Rattle.blocks.specs.Stops.{blocksWith, movedBy, Answers, Inside, Halts};
 use refusal::Refusal;
 use token::Read;
 
@@ -88,6 +89,37 @@ pub struct Run {
     pub blocks: Blocks,
 }
 
+// How many blocks are open, and what is due in the innermost.
+pub struct Inner {
+    pub depth: usize,
+    pub due: Due,
+}
+
+// Why a run over tokens stops.
+pub enum Stop {
+    // The bytes ended.
+    Ended,
+    // No whole token stands there.
+    Unread,
+    // The record is whole.
+    Whole,
+    // The token is wrong for its place.
+    Wrong,
+    // The token opens a block too many.
+    Deep,
+}
+
+// Where a run over tokens stops: the end of the last that was passed, that of the last that was read, how many readings were made,
+// how many blocks are open and what is due there, and why it stops.
+pub struct Halt {
+    pub place: usize,
+    pub end: usize,
+    pub readings: usize,
+    pub depth: usize,
+    pub due: Due,
+    pub stop: Stop,
+}
+
 // No block is open, and a value is due.
 pub fn no_blocks() -> Blocks
     ensures { λ r. ⌜ r ≡ noBlocks ⌝ }
@@ -125,28 +157,19 @@ fn due_fits(kinds: &[u8; 128], depth: usize, due: Due) -> bool
 {
     if depth == 0 {
         return match due {
-            Due::Value => true,
-            Due::Object => true,
-            Due::Item => false,
-            Due::Key => false,
-            Due::Equals => false,
+            Due::Value | Due::Object => true,
+            Due::Item | Due::Key | Due::Equals => false,
         };
     }
     if kinds[depth - 1] == LIST {
         return match due {
-            Due::Value => false,
-            Due::Object => true,
-            Due::Item => true,
-            Due::Key => false,
-            Due::Equals => false,
+            Due::Object | Due::Item => true,
+            Due::Value | Due::Key | Due::Equals => false,
         };
     }
     match due {
-        Due::Value => true,
-        Due::Object => true,
+        Due::Value | Due::Object | Due::Key | Due::Equals => true,
         Due::Item => false,
-        Due::Key => true,
-        Due::Equals => true,
     }
 }
 
@@ -203,11 +226,8 @@ fn value_due(due: Due) -> bool
     ensures { λ r. ⌜ r ≡ valueDue (dueOf due) ⌝ }
 {
     match due {
-        Due::Value => true,
-        Due::Object => true,
-        Due::Item => true,
-        Due::Key => false,
-        Due::Equals => false,
+        Due::Value | Due::Object | Due::Item => true,
+        Due::Key | Due::Equals => false,
     }
 }
 
@@ -216,11 +236,8 @@ fn on_semicolon(due: Due) -> Move
     ensures { λ r. ⌜ Anywhere due kind.Semicolon r ⌝ }
 {
     match due {
-        Due::Value => Move::Wrong,
-        Due::Object => Move::Wrong,
-        Due::Item => Move::Stay,
-        Due::Key => Move::Stay,
-        Due::Equals => Move::Wrong,
+        Due::Item | Due::Key => Move::Stay,
+        Due::Value | Due::Object | Due::Equals => Move::Wrong,
     }
 }
 
@@ -229,11 +246,8 @@ fn on_equals(due: Due) -> Move
     ensures { λ r. ⌜ Anywhere due kind.Equals r ⌝ }
 {
     match due {
-        Due::Value => Move::Wrong,
-        Due::Object => Move::Wrong,
-        Due::Item => Move::Wrong,
-        Due::Key => Move::Wrong,
         Due::Equals => Move::ToValue,
+        Due::Value | Due::Object | Due::Item | Due::Key => Move::Wrong,
     }
 }
 
@@ -247,26 +261,14 @@ fn begun(depth: usize, opening: Move) -> Move
     opening
 }
 
-// `[` begins a value.
-fn on_list(depth: usize, due: Due) -> Move
-    requires { ⌜ depth ≤ mostOpen ⌝ }
-    ensures { λ r. ⌜ Among depth due kind.OpenList r ⌝ }
+// A block is opened by this move where a value is due.
+fn value_begun(depth: usize, due: Due, opening: Move) -> Move
+    ensures { λ r. ⌜ r ≡ beginsValue depth (dueOf due) opening ⌝ }
 {
     if !value_due(due) {
         return Move::Wrong;
     }
-    begun(depth, Move::OpenList)
-}
-
-// `{` begins a value.
-fn on_map(depth: usize, due: Due) -> Move
-    requires { ⌜ depth ≤ mostOpen ⌝ }
-    ensures { λ r. ⌜ Among depth due kind.OpenMap r ⌝ }
-{
-    if !value_due(due) {
-        return Move::Wrong;
-    }
-    begun(depth, Move::OpenMap)
+    begun(depth, opening)
 }
 
 // `<` begins a value whose attributes are not passed.
@@ -275,11 +277,8 @@ fn on_attributes(depth: usize, due: Due) -> Move
     ensures { λ r. ⌜ Among depth due kind.OpenAttributes r ⌝ }
 {
     match due {
-        Due::Value => begun(depth, Move::OpenAttributes),
-        Due::Object => Move::Wrong,
-        Due::Item => begun(depth, Move::OpenAttributes),
-        Due::Key => Move::Wrong,
-        Due::Equals => Move::Wrong,
+        Due::Value | Due::Item => begun(depth, Move::OpenAttributes),
+        Due::Object | Due::Key | Due::Equals => Move::Wrong,
     }
 }
 
@@ -289,8 +288,6 @@ fn on_list_end(kinds: &[u8; 128], depth: usize, due: Due) -> Move
     ensures { λ r. ⌜ Moves (openIn depth (now (kinds .entry))) depth (dueOf due) (step (dueOf due) (openIn depth (now (kinds .entry))) kind.CloseList) r ⌝ }
 {
     match due {
-        Due::Value => Move::Wrong,
-        Due::Object => Move::Wrong,
         Due::Item => {
             if depth == 0 {
                 return Move::Wrong;
@@ -300,8 +297,7 @@ fn on_list_end(kinds: &[u8; 128], depth: usize, due: Due) -> Move
             }
             Move::Wrong
         }
-        Due::Key => Move::Wrong,
-        Due::Equals => Move::Wrong,
+        Due::Value | Due::Object | Due::Key | Due::Equals => Move::Wrong,
     }
 }
 
@@ -311,9 +307,6 @@ fn on_map_end(kinds: &[u8; 128], depth: usize, due: Due) -> Move
     ensures { λ r. ⌜ Moves (openIn depth (now (kinds .entry))) depth (dueOf due) (step (dueOf due) (openIn depth (now (kinds .entry))) kind.CloseMap) r ⌝ }
 {
     match due {
-        Due::Value => Move::Wrong,
-        Due::Object => Move::Wrong,
-        Due::Item => Move::Wrong,
         Due::Key => {
             if depth == 0 {
                 return Move::Wrong;
@@ -323,7 +316,7 @@ fn on_map_end(kinds: &[u8; 128], depth: usize, due: Due) -> Move
             }
             Move::Wrong
         }
-        Due::Equals => Move::Wrong,
+        Due::Value | Due::Object | Due::Item | Due::Equals => Move::Wrong,
     }
 }
 
@@ -333,9 +326,6 @@ fn on_attributes_end(kinds: &[u8; 128], depth: usize, due: Due) -> Move
     ensures { λ r. ⌜ Moves (openIn depth (now (kinds .entry))) depth (dueOf due) (step (dueOf due) (openIn depth (now (kinds .entry))) kind.CloseAttributes) r ⌝ }
 {
     match due {
-        Due::Value => Move::Wrong,
-        Due::Object => Move::Wrong,
-        Due::Item => Move::Wrong,
         Due::Key => {
             if depth == 0 {
                 return Move::Wrong;
@@ -349,7 +339,7 @@ fn on_attributes_end(kinds: &[u8; 128], depth: usize, due: Due) -> Move
             }
             Move::CloseObject
         }
-        Due::Equals => Move::Wrong,
+        Due::Value | Due::Object | Due::Item | Due::Equals => Move::Wrong,
     }
 }
 
@@ -370,9 +360,7 @@ fn on_string(kinds: &[u8; 128], depth: usize, due: Due) -> Move
     ensures { λ r. ⌜ Moves (openIn depth (now (kinds .entry))) depth (dueOf due) (step (dueOf due) (openIn depth (now (kinds .entry))) kind.Text) r ⌝ }
 {
     match due {
-        Due::Value => whole(kinds, depth),
-        Due::Object => whole(kinds, depth),
-        Due::Item => whole(kinds, depth),
+        Due::Value | Due::Object | Due::Item => whole(kinds, depth),
         Due::Key => Move::ToEquals,
         Due::Equals => Move::Wrong,
     }
@@ -386,9 +374,9 @@ fn decide(kinds: &[u8; 128], depth: usize, due: Due, b: u8) -> Move
     match b {
         b';' => on_semicolon(due),
         b'=' => on_equals(due),
-        b'[' => on_list(depth, due),
+        b'[' => value_begun(depth, due, Move::OpenList),
         b']' => on_list_end(kinds, depth, due),
-        b'{' => on_map(depth, due),
+        b'{' => value_begun(depth, due, Move::OpenMap),
         b'}' => on_map_end(kinds, depth, due),
         b'<' => on_attributes(depth, due),
         b'>' => on_attributes_end(kinds, depth, due),
@@ -402,9 +390,7 @@ fn wrong_number(due: Due) -> usize
     ensures { λ r. ⌜ r ≡ wrongBy (dueOf due) ⌝ }
 {
     match due {
-        Due::Value => refusal::NOT_VALUE,
-        Due::Object => refusal::NOT_VALUE,
-        Due::Item => refusal::NOT_VALUE,
+        Due::Value | Due::Object | Due::Item => refusal::NOT_VALUE,
         Due::Key => refusal::NOT_KEY,
         Due::Equals => refusal::NOT_EQUALS,
     }
@@ -427,12 +413,167 @@ fn why(input: &[u8], at: usize) -> What
     }
 }
 
+// The answer where a run over tokens stopped.
+fn what_of(stop: Stop, input: &[u8], place: usize, end: usize, due: Due) -> What
+    requires { ⌜ Inside (now input) stop place ⌝ }
+    ensures { λ r. ⌜ Answers (now (input .entry)) stop place end due (whatMeaning r) ⌝ }
+{
+    match stop {
+        Stop::Ended => What::Unfinished,
+        Stop::Unread => why(input, place),
+        Stop::Whole => What::Whole(place),
+        Stop::Wrong => What::Refused(refusal::refusal_of(wrong_number(due), end)),
+        Stop::Deep => What::Refused(Refusal::TooDeep { place }),
+    }
+}
+
+// The open blocks behind a token that does this, with the bytes of their kinds.
+fn moved(kinds: &mut [u8; 128], depth: usize, due: Due, way: Move) -> Inner
+    requires { ⌜ (depth ≤ mostOpen) × Apt way depth ⌝ }
+    ensures { λ r. ⌜ blocksWith (r .depth) (r .due) (now (kinds .exit)) ≡ movedBy way depth due (now (kinds .entry)) ⌝ }
+{
+    match way {
+        Move::OpenList => {
+            kinds[depth] = LIST;
+            Inner {
+                depth: depth + 1,
+                due: Due::Item,
+            }
+        }
+        Move::OpenMap => {
+            kinds[depth] = MAP;
+            Inner {
+                depth: depth + 1,
+                due: Due::Key,
+            }
+        }
+        Move::OpenAttributes => {
+            kinds[depth] = ATTRIBUTES;
+            Inner {
+                depth: depth + 1,
+                due: Due::Key,
+            }
+        }
+        Move::CloseItem => {
+            kinds[depth - 1] = 0;
+            Inner {
+                depth: depth - 1,
+                due: Due::Item,
+            }
+        }
+        Move::CloseKey => {
+            kinds[depth - 1] = 0;
+            Inner {
+                depth: depth - 1,
+                due: Due::Key,
+            }
+        }
+        Move::CloseObject => {
+            kinds[depth - 1] = 0;
+            Inner {
+                depth: depth - 1,
+                due: Due::Object,
+            }
+        }
+        Move::ToItem => Inner {
+            depth,
+            due: Due::Item,
+        },
+        Move::ToKey => Inner {
+            depth,
+            due: Due::Key,
+        },
+        Move::ToEquals => Inner {
+            depth,
+            due: Due::Equals,
+        },
+        Move::ToValue => Inner {
+            depth,
+            due: Due::Value,
+        },
+        Move::Stay | Move::Finish | Move::Wrong | Move::Deep => Inner { depth, due },
+    }
+}
+
+// The tokens of `input` from `from` on, with `count` blocks open and `first` due, until they stop.
+fn read_tokens(kinds: &mut [u8; 128], count: usize, first: Due, input: &[u8], from: usize) -> Halt
+    requires { ⌜ count ≤ mostOpen ⌝ }
+    ensures { λ r. ⌜ Halts (now (input .entry)) r (now (kinds .exit)) (readFrom (now (input .entry)) from (blocksWith count first (now (kinds .entry)))) ⌝ }
+{
+    let mut depth = count;
+    let mut due = first;
+    let mut place = from;
+    let mut readings: usize = 0;
+    while place < input.len() {
+        let end = binary_ends::token_end(input, place);
+        readings += 1;
+        if end == 0 {
+            return Halt {
+                place,
+                end,
+                readings,
+                depth,
+                due,
+                stop: Stop::Unread,
+            };
+        }
+        let b = input[place];
+        let way = decide(kinds, depth, due, b);
+        match way {
+            Move::Finish => {
+                return Halt {
+                    place: end,
+                    end,
+                    readings,
+                    depth,
+                    due,
+                    stop: Stop::Whole,
+                };
+            }
+            Move::Wrong => {
+                return Halt {
+                    place,
+                    end,
+                    readings,
+                    depth,
+                    due,
+                    stop: Stop::Wrong,
+                };
+            }
+            Move::Deep => {
+                return Halt {
+                    place,
+                    end,
+                    readings,
+                    depth,
+                    due,
+                    stop: Stop::Deep,
+                };
+            }
+            _ => {
+                let inner = moved(kinds, depth, due, way);
+                depth = inner.depth;
+                due = inner.due;
+                place = end;
+            }
+        }
+    }
+    Halt {
+        place,
+        end: place,
+        readings,
+        depth,
+        due,
+        stop: Stop::Ended,
+    }
+}
+
 // The tokens of `input` from `from` on, until one ends the record, is unfinished or is refused, or the bytes end.
 pub fn pass(blocks: Blocks, input: &[u8], from: usize) -> Run
     ensures { λ r. ⌜ runMeaning r ≡ passOf (now (input .entry)) from blocks ⌝ }
 {
-    let mut depth = blocks.depth;
-    if MOST_OPEN < depth {
+    let count = blocks.depth;
+    if MOST_OPEN < count {
         return Run {
             place: from,
             readings: 0,
@@ -440,112 +581,30 @@ pub fn pass(blocks: Blocks, input: &[u8], from: usize) -> Run
             blocks,
         };
     }
-    let mut due = blocks.due;
+    let first = blocks.due;
     let mut kinds = blocks.kinds;
-    let mut place = from;
-    let mut readings: usize = 0;
-    while place < input.len() {
-        let end = binary_ends::token_end(input, place);
-        readings += 1;
-        if end == 0 {
-            let what = why(input, place);
-            return Run {
+    let halt = read_tokens(&mut kinds, count, first, input, from);
+    let place = halt.place;
+    let readings = halt.readings;
+    let depth = halt.depth;
+    let due = halt.due;
+    let stop = halt.stop;
+    let what = what_of(stop, input, place, halt.end, due);
+    match stop {
+        Stop::Whole => {
+            let none = no_blocks();
+            Run {
                 place,
                 readings,
                 what,
-                blocks: Blocks { depth, due, kinds },
-            };
-        }
-        let b = input[place];
-        match decide(&kinds, depth, due, b) {
-            Move::OpenList => {
-                kinds[depth] = LIST;
-                depth += 1;
-                due = Due::Item;
-                place = end;
-            }
-            Move::OpenMap => {
-                kinds[depth] = MAP;
-                depth += 1;
-                due = Due::Key;
-                place = end;
-            }
-            Move::OpenAttributes => {
-                kinds[depth] = ATTRIBUTES;
-                depth += 1;
-                due = Due::Key;
-                place = end;
-            }
-            Move::CloseItem => {
-                depth -= 1;
-                kinds[depth] = 0;
-                due = Due::Item;
-                place = end;
-            }
-            Move::CloseKey => {
-                depth -= 1;
-                kinds[depth] = 0;
-                due = Due::Key;
-                place = end;
-            }
-            Move::CloseObject => {
-                depth -= 1;
-                kinds[depth] = 0;
-                due = Due::Object;
-                place = end;
-            }
-            Move::Stay => {
-                place = end;
-            }
-            Move::ToItem => {
-                due = Due::Item;
-                place = end;
-            }
-            Move::ToKey => {
-                due = Due::Key;
-                place = end;
-            }
-            Move::ToEquals => {
-                due = Due::Equals;
-                place = end;
-            }
-            Move::ToValue => {
-                due = Due::Value;
-                place = end;
-            }
-            Move::Finish => {
-                let none = no_blocks();
-                return Run {
-                    place: end,
-                    readings,
-                    what: What::Whole(end),
-                    blocks: none,
-                };
-            }
-            Move::Wrong => {
-                let number = wrong_number(due);
-                let refusal = refusal::refusal_of(number, end);
-                return Run {
-                    place,
-                    readings,
-                    what: What::Refused(refusal),
-                    blocks: Blocks { depth, due, kinds },
-                };
-            }
-            Move::Deep => {
-                return Run {
-                    place,
-                    readings,
-                    what: What::Refused(Refusal::TooDeep { place }),
-                    blocks: Blocks { depth, due, kinds },
-                };
+                blocks: none,
             }
         }
-    }
-    Run {
-        place,
-        readings,
-        what: What::Unfinished,
-        blocks: Blocks { depth, due, kinds },
+        Stop::Ended | Stop::Unread | Stop::Wrong | Stop::Deep => Run {
+            place,
+            readings,
+            what,
+            blocks: Blocks { depth, due, kinds },
+        },
     }
 }

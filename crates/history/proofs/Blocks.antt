@@ -5,11 +5,10 @@ use mathlib.Core.List.{List, [], _∷_}
 use Prim.Native.Nat.{ℕ, zero, suc, _+_, _-_, _≤_, _<_}
 use native.Mathlib.Omega.{arith}
 use native.Mathlib.Numerals.{add-one}
-use lib.Dec.{eqb, ltb}
+use lib.Dec.{ltb}
 use lib.ListN.{length, getD, set, length-set, length-replicate}
 use lib.Seq.{getD-set-same, getD-set-other}
 use borrow.Author.Tests.{ltb-true}
-use Rattle.refusal.specs.Paper.{pick}
 use Rattle.token.specs.declared.Kind.{Kind}
 use Rattle.token.specs.declared.Kind.the-variants.{Text, Scalar, OpenList, CloseList, OpenMap, CloseMap, OpenAttributes, CloseAttributes, Equals, Semicolon}
 use Rattle.scan.specs.Limit.{mostOpen}
@@ -18,7 +17,7 @@ use Rattle.blocks.specs.declared.Blocks.{Blocks}
 use Rattle.blocks.specs.Kept.{blockOf, byteOf, openIn, blocksOf, dueOf, keptDue, noBlocks, blocksThen, kindsKnown, takes, dueFits}
 use Rattle.blocks.specs.Moves.{around}
 use Rattle.blocks.specs.declared.Due as declared
-use Rattle.blocks.proofs.Stack.{blocks, open-length, around-is, then-open, then-close, then-keep}
+use Rattle.blocks.proofs.Stack.{blocks, open-length, around-is, known-byte, known-less, then-open, then-close, then-keep}
 use Rattle.blocks.proofs.Firsts.{pick-case}
 use Rattle.history.specs.Facts.{Slotted}
 
@@ -196,12 +195,6 @@ block-byte list = refl
 block-byte map = refl
 block-byte attributes = refl
 
-known-byte : (x : Block) (rest : Bool) → pick (eqb (byteOf x) 0) false (pick (ltb 3 (byteOf x)) false rest) ≡ rest
-unfolding byteOf
-known-byte list r = refl
-known-byte map r = refl
-known-byte attributes r = refl
-
 due-kept : (d : Due) → dueOf (keptDue d) ≡ d
 due-kept value = refl
 due-kept object = refl
@@ -217,15 +210,7 @@ module _ (n : ℕ) (ks : List ℕ) (x : Block) (h : n < length ks) where
 
   known-more : kindsKnown (suc n) (set ks n (byteOf x)) ≡ kindsKnown n ks
   unfolding kindsKnown
-  known-more = rw (getD-set-same ks n (byteOf x) 0 h, known-below ks n (byteOf x) n (omega arith)) (known-byte x (kindsKnown n ks))
-
-pick-true : (t x : Bool) → pick t false x ≡ true → x ≡ true
-pick-true true x e = let z : _≡_ {A = ℕ} 0 1 = cc in absurd (omega arith)
-pick-true false x e = e
-
-known-less : (ks : List ℕ) (n : ℕ) → kindsKnown (suc n) ks ≡ true → kindsKnown n ks ≡ true
-unfolding kindsKnown
-known-less ks n e = pick-true (ltb 3 (getD ks n 0)) (kindsKnown n ks) (pick-true (eqb (getD ks n 0) 0) (pick (ltb 3 (getD ks n 0)) false (kindsKnown n ks)) e)
+  known-more = rw (getD-set-same ks n (byteOf x) 0 h, known-below ks n (byteOf x) n (omega arith), known-byte x) refl
 
 pub sound-none : (k : ℕ) → Sound noBlocks k
 unfolding noBlocks kindsKnown openIn takes

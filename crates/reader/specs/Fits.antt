@@ -48,6 +48,10 @@ unfoldable pub fits : State → ℕ → Bool
 fits s n =
     lengthsAgree s n && lengthInRange n && placesInOrder s n && offsetFits s && blocksAgree s
 
+-- the tests on lengths and places, of the numbers alone
+abbrev pub placesFit : ℕ → ℕ → ℕ → ℕ → ℕ → Bool
+placesFit len start place filled n = eqb len n && (leb leastBuffer n && leb n mostBuffer) && (leb start place && leb place filled && leb filled n)
+
 -- the tests on numbers, as facts
 pub record Fitting (s : State) (n : ℕ) : Type 0 where
   pub len : s .len ≡ n

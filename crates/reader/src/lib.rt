@@ -5,7 +5,7 @@ ghost use Prim.Native.Nat.{_+_, _-_, _≤_, min};
 ghost use lib.ListN.{length};
 ghost use lib.Seq.{slice, paste};
 ghost use Rattle.blocks.specs.Readings.{runMeaning};
-ghost use Rattle.reader.specs.Fits.{fits, Fitting};
+ghost use Rattle.reader.specs.Fits.{fits, placesFit, Fitting};
 ghost use Rattle.reader.specs.Meaning.{openedMeaning, offeredMeaning, closedMeaning, nextMeaning};
 ghost use Rattle.reader.specs.Calls.{newState, openOf, offerOf, bufferOf, closeOf, isSeparator, separators, skippedOf, markOf, waitOf, handOut, nextOf, recordOf, Within};
 use blocks::Blocks;
@@ -120,16 +120,10 @@ pub struct Next {
     pub state: State,
 }
 
-// Whether a state belongs to a buffer of `n` bytes.
-fn fits_together(s: State, n: usize) -> bool
-    ensures { λ r. ⌜ r ≡ fits s n ⌝ }
+// Whether these lengths and places belong to a buffer of `n` bytes.
+fn places_fit(len: usize, start: usize, place: usize, filled: usize, n: usize) -> bool
+    ensures { λ r. ⌜ r ≡ placesFit len start place filled n ⌝ }
 {
-    let len = s.len;
-    let start = s.start;
-    let place = s.place;
-    let filled = s.filled;
-    let offset = s.offset;
-    let kept = s.blocks;
     if len != n {
         return false;
     }
@@ -146,6 +140,21 @@ fn fits_together(s: State, n: usize) -> bool
         return false;
     }
     if n < filled {
+        return false;
+    }
+    true
+}
+
+// Whether a state belongs to a buffer of `n` bytes.
+fn fits_together(s: State, n: usize) -> bool
+    ensures { λ r. ⌜ r ≡ fits s n ⌝ }
+{
+    let start = s.start;
+    let place = s.place;
+    let filled = s.filled;
+    let offset = s.offset;
+    let kept = s.blocks;
+    if !places_fit(s.len, start, place, filled, n) {
         return false;
     }
     if MOST_OFFSET - offset < (filled - start) as u64 {
@@ -222,6 +231,7 @@ fn put(buf: &mut [u8], at: usize, piece: &[u8], count: usize)
     }
 }
 
+// The least of two numbers.
 fn least(a: usize, b: usize) -> usize
     ensures { λ r. ⌜ r ≡ min a b ⌝ }
 {

@@ -1,20 +1,18 @@
 -- The open blocks of a record that is being read: what a token leaves of them is what the automaton says, and is good again. Assumes nothing.
 use mathlib.Core.Path.{_≡_, refl, sym, ap, subst, _∙_}
-use mathlib.Core.Bool.{Bool, true, false}
+use mathlib.Core.Bool.{true}
 use mathlib.Core.List.{List, _∷_}
 use Prim.Native.Nat.{ℕ, zero, suc, _-_, _≤_, _<_}
 use native.Mathlib.Omega.{arith}
-use lib.Dec.{eqb, ltb}
 use lib.ListN.{length, getD, set, length-set, length-replicate}
 use lib.Seq.{getD-set-same, getD-set-other}
-use borrow.Author.Tests.{ne-eqb, lt-ltb, le-ltb}
-use Rattle.refusal.specs.Paper.{pick}
+use borrow.Author.Tests.{lt-ltb, le-ltb}
 use Rattle.token.specs.declared.Kind.{Kind}
 use Rattle.scan.specs.Limit.{mostOpen}
 use Rattle.scan.specs.Step.{Block, list, map, attributes, Due, value, object, item, key, equals, go, deep, step}
 use Rattle.blocks.specs.declared.Blocks.{Blocks}
 use Rattle.blocks.specs.Kept.{blockOf, byteOf, openIn, blocksOf, dueOf, keptDue, innermost, kindsThen, blocksThen, noBlocks, kindsKnown, takes, blocksFit}
-use Rattle.blocks.proofs.Stack.{open-length, open-some, by-due}
+use Rattle.blocks.proofs.Stack.{open-length, open-some, known-byte, known-less, by-due}
 use Rattle.stream.proofs.Automaton.{Turn, one-more, one-less, as-many, turn}
 
 -- open blocks of a record of which k bytes are passed
@@ -45,12 +43,6 @@ block-byte list = refl
 block-byte map = refl
 block-byte attributes = refl
 
-byte-known : (x : Block) → (0 < byteOf x) × (byteOf x ≤ 3)
-unfolding byteOf
-byte-known list = (omega arith, omega arith)
-byte-known map = (omega arith, omega arith)
-byte-known attributes = (omega arith, omega arith)
-
 -- a byte of a slot that is not among the first n
 module _ (ks : List ℕ) (j v : ℕ) where
   open-set : (n : ℕ) → n ≤ j → openIn n (set ks j v) ≡ openIn n ks
@@ -63,18 +55,9 @@ module _ (ks : List ℕ) (j v : ℕ) where
   known-set zero h = refl
   known-set (suc n) h = rw (getD-set-other ks j n v 0 (λ e. omega arith), known-set n (omega arith))
 
-known-less : (n : ℕ) (ks : List ℕ) → kindsKnown (suc n) ks ≡ true → kindsKnown n ks ≡ true
+known-here : (n : ℕ) (ks : List ℕ) (x : Block) → getD ks n 0 ≡ byteOf x → kindsKnown n ks ≡ true → kindsKnown (suc n) ks ≡ true
 unfolding kindsKnown
-known-less n ks e = by (eqb (getD ks n 0) 0) (ltb 3 (getD ks n 0)) e
-  where
-    by : (q r : Bool) → pick q false (pick r false (kindsKnown n ks)) ≡ true → kindsKnown n ks ≡ true
-    by true r e = let z : _≡_ {A = ℕ} 0 1 = cc in absurd (omega arith)
-    by false true e = let z : _≡_ {A = ℕ} 0 1 = cc in absurd (omega arith)
-    by false false e = e
-
-known-here : (n : ℕ) (ks : List ℕ) → 0 < getD ks n 0 → getD ks n 0 ≤ 3 → kindsKnown n ks ≡ true → kindsKnown (suc n) ks ≡ true
-unfolding kindsKnown
-known-here n ks h g e = let z : getD ks n 0 ≡ 0 → ⊥ = λ q. omega arith in simp (ne-eqb _ _ z, le-ltb _ _ g) e
+known-here n ks x h e = rw (h, known-byte x) e
 
 -- the bytes behind a token
 module _ (b : Blocks) where
@@ -109,14 +92,13 @@ module _ (b : Blocks) (k : ℕ) (G : Good b k) where
       let n = deep-is in
       let l : b .depth < length (b .kinds) = omega (arith, G .len) in
       let v : getD (set (b .kinds) (b .depth) (byteOf x)) (b .depth) 0 ≡ byteOf x = getD-set-same (b .kinds) (b .depth) (byteOf x) 0 l in
-      let y = byte-known x in
       record {
         opens = rw (kinds-more b x, n) (rw (v, block-byte x, open-set (b .kinds) (b .depth) (byteOf x) (b .depth) (omega arith)) refl);
         takes-due = e;
         top = omega arith;
         one = omega arith;
         known =
-            rw (kinds-more b x, n) (known-here (b .depth) (set (b .kinds) (b .depth) (byteOf x)) (omega arith) (omega arith) (known-set (b .kinds) (b .depth) (byteOf x) (b .depth) (omega arith) ∙ G .known));
+            rw (kinds-more b x, n) (known-here (b .depth) (set (b .kinds) (b .depth) (byteOf x)) x v (known-set (b .kinds) (b .depth) (byteOf x) (b .depth) (omega arith) ∙ G .known));
         len = rw (kinds-more b x, length-set (b .kinds) (b .depth) (byteOf x)) (G .len);
       }
 
@@ -132,7 +114,7 @@ module _ (b : Blocks) (k : ℕ) (G : Good b k) where
         takes-due = e;
         top = omega (arith, G .top);
         one = omega arith;
-        known = rw (w, known-set (b .kinds) (length L) 0 (length L) (omega arith)) (known-less (length L) (b .kinds) (rw m (G .known)));
+        known = rw (w, known-set (b .kinds) (length L) 0 (length L) (omega arith)) (known-less (b .kinds) (length L) (rw m (G .known)));
         len = rw (w, length-set (b .kinds) (length L) 0) (G .len);
       }
 

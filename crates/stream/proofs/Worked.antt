@@ -12,7 +12,7 @@ use Rattle.binary.specs.Binary.{doubleAt, marked, binaryFrom}
 use Rattle.lexer.specs.Lexer.{tokenFrom, kindAt}
 use Rattle.scan.specs.Step.{after, closed, opened, onObject, onValue, endList, endMap, endAttributes, onItem, onKey, onEquals, step}
 use Rattle.scan.specs.Walk.{arrive, onRead, runFor, walk, scanOf}
-use Rattle.blocks.specs.Kept.{blockOf, byteOf, openIn, noBlocks, innermost, kindsThen, kindsKnown, takes, blocksFit}
+use Rattle.blocks.specs.Kept.{blockOf, byteOf, openIn, noBlocks, innermost, kindsThen, kindKnown, kindsKnown, takes, blocksFit}
 use Rattle.blocks.specs.Readings.{binary, onStep, onToken, readFor, readOn}
 use Rattle.reader.specs.declared.Mark.the-variants.{Row, Control}
 use Rattle.reader.specs.Fits.{fits}
@@ -45,9 +45,9 @@ abbrev trace : Trace
 trace = drive (enough pieces) false (openOf 0 64 .state) (replicate 64 0) pieces
 
 pub worked-readings : readingsOf trace ≡ 15
-unfolding marks.markOf run number uvarint uvarintAt signed varintAt doubleAt marked binaryFrom tokenFrom kindAt after closed opened onObject onValue endList endMap endAttributes onItem onKey onEquals step isSeparator isBlank joined blockOf byteOf openIn noBlocks innermost kindsThen onStep onToken readFor readOn kindsKnown takes blocksFit fits separators openOf offerOf bufferOf closeOf skippedOf nextBy driveBy readingsOf
+unfolding marks.markOf run number uvarint uvarintAt signed varintAt doubleAt marked binaryFrom tokenFrom kindAt after closed opened onObject onValue endList endMap endAttributes onItem onKey onEquals step isSeparator isBlank joined blockOf byteOf openIn noBlocks innermost kindsThen onStep onToken readFor readOn kindKnown kindsKnown takes blocksFit fits separators openOf offerOf bufferOf closeOf skippedOf nextBy driveBy readingsOf
 worked-readings = refl
 
 pub worked-lefts : leftsOf trace ≡ 3
-unfolding marks.markOf run number uvarint uvarintAt signed varintAt doubleAt marked binaryFrom tokenFrom kindAt after closed opened onObject onValue endList endMap endAttributes onItem onKey onEquals step isSeparator isBlank joined blockOf byteOf openIn noBlocks innermost kindsThen onStep onToken readFor readOn kindsKnown takes blocksFit fits separators openOf offerOf bufferOf closeOf skippedOf nextBy driveBy leftsOf
+unfolding marks.markOf run number uvarint uvarintAt signed varintAt doubleAt marked binaryFrom tokenFrom kindAt after closed opened onObject onValue endList endMap endAttributes onItem onKey onEquals step isSeparator isBlank joined blockOf byteOf openIn noBlocks innermost kindsThen onStep onToken readFor readOn kindKnown kindsKnown takes blocksFit fits separators openOf offerOf bufferOf closeOf skippedOf nextBy driveBy leftsOf
 worked-lefts = refl

@@ -1,10 +1,11 @@
 -- `decide` meets its contract: the first byte tells the kind.
+use native.Mathlib.Omega.{arith}
 use denote.Ref.{now}
-use Rattle.blocks.specs.Kept.{openIn}
+use Rattle.blocks.specs.Kept.{dueOf, openIn}
 use Rattle.blocks.specs.Moves.{kindBy}
 use Rattle.blocks.proofs.Stack.{open-length}
 use Rattle.blocks.proofs.Firsts.{is-scalar}
-use Rattle.blocks.proofs.Ways.{by-byte}
+use Rattle.blocks.proofs.Ways.{by-byte, list-begun, map-begun}
 use borrow.Author.Needs.{needs}
 use Rattle.blocks.proofs.decide.Statement.{statement}
 use Rattle.blocks.proofs.decide.Tie as tie
@@ -15,14 +16,14 @@ on-semicolon-requires c κs = search needs
 on-equals-requires : tie.Need-on-equals-requires
 on-equals-requires c κs = search needs
 
-on-list-requires : tie.Need-on-list-requires
-on-list-requires c κs = search needs
+value-begun-requires : tie.Need-value-begun-requires
+value-begun-requires c κs = search needs
 
 on-list-end-requires : tie.Need-on-list-end-requires
 on-list-end-requires c κs = search needs
 
-on-map-requires : tie.Need-on-map-requires
-on-map-requires c κs = search needs
+value-begun-requires-2 : tie.Need-value-begun-requires-2
+value-begun-requires-2 c κs = search needs
 
 on-map-end-requires : tie.Need-on-map-end-requires
 on-map-end-requires c κs = search needs
@@ -49,7 +50,7 @@ returns-2 c = by-byte _ 0x3D (c .before .match .keys2) (c .on-equals .ensures (o
 
 returns-3 : tie.Need-returns-3
 unfolding kindBy
-returns-3 c = by-byte _ 0x5B (c .before .match .keys3) (c .on-list .ensures (openIn (c .before .before .args .depth) (now (c .before .before .args .kinds))) (open-length (now (c .before .before .args .kinds)) (c .before .before .args .depth)))
+returns-3 c = by-byte _ 0x5B (c .before .match .keys3) (list-begun (c .before .before .args .depth) (openIn (c .before .before .args .depth) (now (c .before .before .args .kinds))) (open-length (now (c .before .before .args .kinds)) (c .before .before .args .depth)) (omega arith) (dueOf (c .before .before .args .due)) (c .value-begun .ensures))
 
 returns-4 : tie.Need-returns-4
 unfolding kindBy
@@ -57,7 +58,7 @@ returns-4 c = by-byte _ 0x5D (c .before .match .keys4) (c .on-list-end .ensures)
 
 returns-5 : tie.Need-returns-5
 unfolding kindBy
-returns-5 c = by-byte _ 0x7B (c .before .match .keys5) (c .on-map .ensures (openIn (c .before .before .args .depth) (now (c .before .before .args .kinds))) (open-length (now (c .before .before .args .kinds)) (c .before .before .args .depth)))
+returns-5 c = by-byte _ 0x7B (c .before .match .keys5) (map-begun (c .before .before .args .depth) (openIn (c .before .before .args .depth) (now (c .before .before .args .kinds))) (open-length (now (c .before .before .args .kinds)) (c .before .before .args .depth)) (omega arith) (dueOf (c .before .before .args .due)) (c .value-begun2 .ensures))
 
 returns-6 : tie.Need-returns-6
 unfolding kindBy
@@ -84,9 +85,9 @@ decide-spec =
     (tie.spec
     on-semicolon-requires
     on-equals-requires
-    on-list-requires
+    value-begun-requires
     on-list-end-requires
-    on-map-requires
+    value-begun-requires-2
     on-map-end-requires
     on-attributes-requires
     on-attributes-end-requires

@@ -2,10 +2,9 @@
 use mathlib.Core.Path.{_≡_, refl, sym, _∙_}
 use Prim.Native.Nat.{_-_, _≤_}
 use native.Mathlib.Omega.{arith}
-use borrow.Author.Tests.{eq-eqb, ne-eqb, lt-ltb, le-ltb}
 use denote.Ref.{now}
 use Rattle.blocks.specs.Kept.{kindsKnown}
-use Rattle.blocks.proofs.Stack.{known-turn, known-end}
+use Rattle.blocks.proofs.Stack.{known-none, known-above, known-there, known-end}
 use Rattle.blocks.proofs.kinds_known.Statement.{statement}
 use Rattle.blocks.proofs.kinds_known.Tie as tie
 
@@ -25,16 +24,16 @@ element-copy-out-k : tie.Need-element-copy-out-k Inv-loop μ-loop
 element-copy-out-k c = omega arith
 
 returns : tie.Need-returns Inv-loop μ-loop
-returns c = sym (c .before .before .before .loop .inv .1 ∙ known-turn (now (c .before .before .before .before .args .kinds)) (c .before .before .before .loop .i) (c .before .before .loop-test .taken) ∙ simp (eq-eqb _ _ (c .if1 .taken)))
+returns c = sym (c .before .before .before .loop .inv .1 ∙ known-none (now (c .before .before .before .before .args .kinds)) (c .before .before .before .loop .i) (c .before .before .loop-test .taken) (c .if1 .taken))
 
 returns-2 : tie.Need-returns-2 Inv-loop μ-loop
-returns-2 c = sym (c .before .before .before .before .loop .inv .1 ∙ known-turn (now (c .before .before .before .before .before .args .kinds)) (c .before .before .before .before .loop .i) (c .before .before .before .loop-test .taken) ∙ simp (ne-eqb _ _ (c .before .if1 .left), lt-ltb _ _ (c .if2 .taken)))
+returns-2 c = sym (c .before .before .before .before .loop .inv .1 ∙ known-above (now (c .before .before .before .before .before .args .kinds)) (c .before .before .before .before .loop .i) (c .before .before .before .loop-test .taken) (c .if2 .taken))
 
 loop-less : tie.Need-loop-less Inv-loop μ-loop
 loop-less c = omega arith
 
 loop-again : tie.Need-loop-again Inv-loop μ-loop
-loop-again c = (omega arith, c .before .before .before .before .loop .inv .1 ∙ known-turn (now (c .before .before .before .before .before .args .kinds)) (c .before .before .before .before .loop .i) (c .before .before .before .loop-test .taken) ∙ simp (ne-eqb _ _ (c .before .if1 .left), le-ltb _ _ (c .if2 .left)))
+loop-again c = (omega arith, c .before .before .before .before .loop .inv .1 ∙ known-there (now (c .before .before .before .before .before .args .kinds)) (c .before .before .before .before .loop .i) (c .before .before .before .loop-test .taken) (c .before .if1 .left) (c .if2 .left))
 
 returns-3 : tie.Need-returns-3 Inv-loop μ-loop
 returns-3 c = sym (c .before .loop .inv .1 ∙ known-end (now (c .before .before .args .kinds)) (c .before .loop .i) (omega arith))

@@ -1,9 +1,10 @@
--- `on_equals` meets its contract: `=` must be due.
+-- `on_equals` meets its contract: it stands behind a key.
 use mathlib.Core.Path.{refl}
 use Rattle.token.specs.declared.Kind.the-variants as kind
-use Rattle.blocks.specs.declared.Due.the-variants.{Value, Object, Item, Key, Equals}
-use Rattle.scan.specs.Step.{step, onValue, onObject, onItem, onKey, onEquals}
-use Rattle.blocks.proofs.Ways.{told}
+use Rattle.blocks.specs.declared.Due.the-variants.{Equals}
+use Rattle.scan.specs.Step.{step, onEquals}
+use Rattle.blocks.proofs.Parts.{equals-wrong}
+use Rattle.blocks.proofs.Ways.{told, wrong-is}
 use borrow.Author.Needs.{needs}
 use Rattle.blocks.proofs.on_equals.Statement.{statement}
 use Rattle.blocks.proofs.on_equals.Tie as tie
@@ -11,49 +12,12 @@ use Rattle.blocks.proofs.on_equals.Tie as tie
 enum-told : tie.Need-enum-told
 enum-told c = search needs
 
-enum-told-2 : tie.Need-enum-told-2
-enum-told-2 c = search needs
-
-enum-told-3 : tie.Need-enum-told-3
-enum-told-3 c = search needs
-
-enum-told-4 : tie.Need-enum-told-4
-enum-told-4 c = search needs
-
-enum-told-5 : tie.Need-enum-told-5
-enum-told-5 c = search needs
-
 returns : tie.Need-returns
-unfolding step onValue onObject onItem onKey onEquals
-returns c = λ K n. told kind.Equals _ Value (c .enum-told .given .1) (record { steps = refl; apt = tt })
+unfolding step onEquals
+returns c = λ K n. told kind.Equals _ Equals (c .enum-told .given .1) (record { steps = refl; apt = tt })
 
 returns-2 : tie.Need-returns-2
-unfolding step onValue onObject onItem onKey onEquals
-returns-2 c = λ K n. told kind.Equals _ Object (c .enum-told2 .given .1) (record { steps = refl; apt = tt })
-
-returns-3 : tie.Need-returns-3
-unfolding step onValue onObject onItem onKey onEquals
-returns-3 c = λ K n. told kind.Equals _ Item (c .enum-told3 .given .1) (record { steps = refl; apt = tt })
-
-returns-4 : tie.Need-returns-4
-unfolding step onValue onObject onItem onKey onEquals
-returns-4 c = λ K n. told kind.Equals _ Key (c .enum-told4 .given .1) (record { steps = refl; apt = tt })
-
-returns-5 : tie.Need-returns-5
-unfolding step onValue onObject onItem onKey onEquals
-returns-5 c = λ K n. told kind.Equals _ Equals (c .enum-told5 .given .1) (record { steps = refl; apt = tt })
+returns-2 c = λ K n. wrong-is (equals-wrong K (c .before .args .due) (c .match .keys2))
 
 pub on-equals-spec : {M : Type 1} → statement M
-on-equals-spec =
-    tie.close
-    (tie.spec
-    enum-told
-    enum-told-2
-    enum-told-3
-    enum-told-4
-    enum-told-5
-    returns
-    returns-2
-    returns-3
-    returns-4
-    returns-5)
+on-equals-spec = tie.close (tie.spec enum-told returns returns-2)
