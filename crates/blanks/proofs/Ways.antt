@@ -9,6 +9,7 @@ use borrow.Author.Tests.{eq-eqb, ne-eqb, eqb-false}
 use lib.Dec.{eqb}
 use lib.ListN.{length, getD, drop, drop-of-length-le}
 use lib.Seq.{drop-cons}
+use Rattle.search.proofs.Laws.{drop-more}
 use Rattle.refusal.specs.Paper.{pick}
 use Rattle.search.specs.First.{firstFrom, isByte}
 use Rattle.search.proofs.Laws.{same-at-first}
@@ -44,11 +45,8 @@ module _ (s : List ℕ) (p : ℕ) where
   drop-end : length s ≤ p → drop p s ≡ []
   drop-end h = drop-of-length-le s h
 
-  drop-more : p < length s → drop p s ≡ getD s p 0 ∷ drop (p + 1) s
-  drop-more h = rw (add-one, drop-cons s p 0)
-
   drop-last : p < length s → length s ≤ p + 1 → drop p s ≡ getD s p 0 ∷ []
-  drop-last h e = drop-more h ∙ ap (λ (l : List ℕ). getD s p 0 ∷ l) (drop-of-length-le s e)
+  drop-last h e = drop-more s p h ∙ ap (λ (l : List ℕ). getD s p 0 ∷ l) (drop-of-length-le s e)
 
   pub blanks-end : length s ≤ p → skipFrom s p ≡ p
   unfolding skipFrom ignored

@@ -11,6 +11,7 @@ use borrow.Author.Tests.{lt-ltb, le-ltb, ltb-false, eq-eqb, ne-eqb, not-true, no
 use lib.Dec.{ltb, eqb}
 use lib.ListN.{length, getD, drop, drop-of-length-le, length-drop}
 use lib.Seq.{drop-cons}
+use Rattle.search.proofs.Laws.{drop-more}
 use Rattle.refusal.specs.Paper.{pick}
 use Rattle.refusal.proofs.Cases.{either}
 use Rattle.search.specs.First.{firstFrom, isOther}
@@ -21,11 +22,8 @@ use Rattle.number.specs.Places.{Leaves, leftAt, MayLeave, Whole}
 use Rattle.number.proofs.Runs.{past-none, past-one, past-less}
 
 module _ (s : List ℕ) (p : ℕ) where
-  pub drop-more : p < length s → drop p s ≡ getD s p 0 ∷ drop (p + 1) s
-  drop-more h = rw (add-one, drop-cons s p 0)
-
   pub starts-at : p < length s → (f : ℕ → Bool) → starts f (drop p s) ≡ f (getD s p 0)
-  starts-at h f = rw (drop-more h)
+  starts-at h f = rw (drop-more s p h)
 
   pub starts-out : length s ≤ p → (f : ℕ → Bool) → starts f (drop p s) ≡ false
   starts-out h f = rw (drop-of-length-le s h)

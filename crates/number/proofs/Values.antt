@@ -15,7 +15,7 @@ use Rattle.number.specs.Places.{upTo, AtMost}
 use Rattle.number.specs.declared.Magnitude.{Magnitude}
 use Rattle.number.specs.declared.Magnitude.the-variants.{Value, Bad}
 use Rattle.number.proofs.Classes.{digit-from, digit-to, and-left, and-right}
-use Rattle.number.proofs.Ends.{drop-more}
+use Rattle.search.proofs.Laws.{drop-more}
 
 -- more digits never make a number less
 value-more : (a : ℕ) (l : List ℕ) → a ≤ valueAfter a l

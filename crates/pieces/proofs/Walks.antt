@@ -7,12 +7,10 @@ use native.Mathlib.Omega.{arith}
 use borrow.Author.Tests.{eq-eqb, ne-eqb}
 use lib.ListN.{length, getD, drop, take, drop-of-length-le, length-drop}
 use lib.Seq.{drop-cons, drop-drop, take-all}
+use Rattle.search.proofs.Laws.{drop-more}
 use Rattle.pieces.specs.Pieces.{End, closed, badHex, cut, Piece, byte, ends, escapeOf, pieceOf, Walk, giving, onward, walk}
 use Rattle.pieces.specs.Numbers.{pieceBy, countBy, countOf}
 use Rattle.pieces.proofs.Digits.{by-cut, by-bad, by-whole}
-
-pub drop-more : (s : List ℕ) (p : ℕ) → p < length s → drop p s ≡ getD s p 0 ∷ drop (p + 1) s
-drop-more s p h = rw (add-one, drop-cons s p 0)
 
 -- a piece at the front of a list
 module _ (b : ℕ) (l : List ℕ) where

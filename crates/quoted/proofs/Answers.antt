@@ -15,7 +15,8 @@ use Rattle.token.specs.declared.Token.{Token}
 use Rattle.token.specs.declared.Token.the-variants.{String, Escaped}
 use Rattle.pieces.specs.Pieces.{End, closed, badHex, cut, Walk, walk}
 use Rattle.pieces.specs.Numbers.{countOf}
-use Rattle.pieces.proofs.Walks.{drop-more, walk-quote, told-bad, told-cut, told-closed}
+use Rattle.search.proofs.Laws.{drop-more}
+use Rattle.pieces.proofs.Walks.{walk-quote, told-bad, told-cut, told-closed}
 use Rattle.quoted.specs.Quoted.{Closing, closesAt, unclosed, closing, hidden, stands, judged, closedAs, quotedAt}
 use Rattle.quoted.specs.Inside.{plain, closingBy, Opens}
 use Rattle.quoted.proofs.Places.{closing-by, close-out, close-quote}

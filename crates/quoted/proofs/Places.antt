@@ -5,7 +5,7 @@ use Prim.Native.Nat.{ℕ, zero, suc, _+_, _≤_, _<_}
 use native.Mathlib.Omega.{arith}
 use borrow.Author.Tests.{ne-eqb}
 use lib.ListN.{length, getD, drop, drop-of-length-le}
-use Rattle.pieces.proofs.Walks.{drop-more}
+use Rattle.search.proofs.Laws.{drop-more}
 use Rattle.quoted.specs.Quoted.{Closing, closesAt, unclosed, closing, hidden}
 use Rattle.quoted.specs.Inside.{closingBy}
 

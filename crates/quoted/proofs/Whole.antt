@@ -19,7 +19,8 @@ use Rattle.quoted.specs.Quoted.{Closing, closesAt, unclosed, closing, hi
 use Rattle.pieces.specs.Numbers.{pieceBy, countBy, countOf}
 use Rattle.quoted.specs.Inside.{wholeBy, wholeFrom}
 use Rattle.pieces.proofs.Digits.{by-whole}
-use Rattle.pieces.proofs.Walks.{drop-more, walk-out, walk-quote, walk-plain, walk-byte, walk-failed}
+use Rattle.search.proofs.Laws.{drop-more}
+use Rattle.pieces.proofs.Walks.{walk-out, walk-quote, walk-plain, walk-byte, walk-failed}
 use Rattle.quoted.proofs.Places.{close-quote, close-plain}
 use Rattle.quoted.proofs.Answers.{within}
 

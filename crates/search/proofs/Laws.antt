@@ -14,21 +14,22 @@ use lib.ListN.{length, getD, drop, drop-of-length-le, length-drop}
 use lib.Seq.{drop-cons}
 use Rattle.search.specs.First.{first, firstFrom, isByte, noLetter, isJoint, isEdge}
 
-module _ (f : ℕ → Bool) (s : List ℕ) (p : ℕ) where
-  drop-more : p < length s → drop p s ≡ getD s p 0 ∷ drop (p + 1) s
-  drop-more h = rw (add-one, drop-cons s p 0)
+-- the bytes from a place on: the one there, and those behind it
+pub drop-more : (s : List ℕ) (p : ℕ) → p < length s → drop p s ≡ getD s p 0 ∷ drop (p + 1) s
+drop-more s p h = rw (add-one, drop-cons s p 0)
 
+module _ (f : ℕ → Bool) (s : List ℕ) (p : ℕ) where
   pub first-out : length s ≤ p → p ≡ firstFrom f s p
   unfolding first firstFrom
   first-out h = rw (drop-of-length-le s h)
 
   pub first-here : p < length s → f (getD s p 0) ≡ true → p ≡ firstFrom f s p
   unfolding first firstFrom
-  first-here h e = rw (drop-more h, e)
+  first-here h e = rw (drop-more s p h, e)
 
   pub first-more : p < length s → f (getD s p 0) ≡ false → firstFrom f s (p + 1) ≡ firstFrom f s p
   unfolding first firstFrom
-  first-more h e = rw (drop-more h, e)
+  first-more h e = rw (drop-more s p h, e)
 
 -- nothing is set in two numbers together only where nothing is set in either
 pub or-none : (a b : ℕ) → bitOr a b ≡ 0 → (a ≡ 0) × (b ≡ 0)

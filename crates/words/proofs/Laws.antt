@@ -20,7 +20,8 @@ use Rattle.token.specs.declared.Kind.the-variants.{Scalar}
 use Rattle.token.specs.Ends.{endOf}
 use Rattle.words.specs.Word.{Word, words, stands, wordOf, wordAt}
 use Rattle.words.specs.Plain.{isPlain, plainRun, plainEnd}
-use Rattle.words.proofs.Stands.{drop-more, stands-within}
+use Rattle.search.proofs.Laws.{drop-more}
+use Rattle.words.proofs.Stands.{stands-within}
 use Rattle.words.proofs.Tokens.{beyond, ended, inside}
 
 -- the tokens of words

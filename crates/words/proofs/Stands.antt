@@ -9,6 +9,7 @@ use borrow.Author.Tests.{eq-eqb, ne-eqb}
 use lib.Dec.{eqb}
 use lib.ListN.{length, getD, drop, drop-of-length-le, length-drop}
 use lib.Seq.{drop-cons, drop-drop}
+use Rattle.search.proofs.Laws.{drop-more}
 use Rattle.refusal.specs.Paper.{pick}
 use Rattle.words.specs.Word.{stands}
 use Rattle.words.specs.Cases.{wordIn}
@@ -45,21 +46,18 @@ stands-append (a ∷ w) v (b ∷ t) = go (eqb b a) (stands-append w v t)
     go false h = refl
 
 module _ (s : List ℕ) (p : ℕ) where
-  pub drop-more : p < length s → drop p s ≡ getD s p 0 ∷ drop (p + 1) s
-  drop-more h = rw (add-one, drop-cons s p 0)
-
   module _ (h : p < length s) (a : ℕ) (w : List ℕ) where
     pub stands-not : (getD s p 0 ≡ a → ⊥) → false ≡ stands (a ∷ w) (drop p s)
     unfolding stands
-    stands-not n = rw (drop-more h, ne-eqb (getD s p 0) a n)
+    stands-not n = rw (drop-more s p h, ne-eqb (getD s p 0) a n)
 
     pub stands-more : getD s p 0 ≡ a → stands w (drop (p + 1) s) ≡ stands (a ∷ w) (drop p s)
     unfolding stands
-    stands-more e = rw (drop-more h, eq-eqb (getD s p 0) a e)
+    stands-more e = rw (drop-more s p h, eq-eqb (getD s p 0) a e)
 
   pub stands-one : p < length s → (a : ℕ) → eqb (getD s p 0) a ≡ stands (a ∷ []) (drop p s)
   unfolding stands
-  stands-one h a = rw (drop-more h) (sym (and-true (eqb (getD s p 0) a)))
+  stands-one h a = rw (drop-more s p h) (sym (and-true (eqb (getD s p 0) a)))
 
 -- ---- a word by its first byte
 
