@@ -12,14 +12,17 @@ use std::{
 use corpora::{all, by_length, Corpus};
 use onionsail::Format;
 use oracle::{
+    answer::count_tokens,
     scan::{scan_value, Scan},
     ser::YsonFormat,
 };
 
 const USAGE: &str = "\
-usage: bench [--rounds N] [--only CORPUS]
+usage: bench [--rounds N] [--only CORPUS] [--alone old|new]
   --rounds: rounds of each corpus, of which the best counts (default 40)
   --only: the corpus of that name alone
+  --alone: no table; that side alone goes over each corpus so many rounds, to be counted from outside, and what is printed is the
+           corpus, its bytes and its tokens
 ";
 
 /// What one side takes for a round, at least; a round repeats the corpus until then.
@@ -35,12 +38,15 @@ fn proved(bytes: &[u8], format: Format) -> usize {
     }
 }
 
-fn original(bytes: &[u8], format: Format) -> usize {
-    let format = match format {
+fn yson(format: Format) -> YsonFormat {
+    match format {
         Format::Binary => YsonFormat::Binary,
         Format::Text => YsonFormat::Text,
-    };
-    match scan_value(bytes, format) {
+    }
+}
+
+fn original(bytes: &[u8], format: Format) -> usize {
+    match scan_value(bytes, yson(format)) {
         Ok(Scan::Complete { len }) => len,
         other => panic!("no whole record: {other:?}"),
     }
@@ -100,6 +106,7 @@ fn megabytes_a_second(corpus: &Corpus, time: Duration) -> f64 {
 fn main() -> ExitCode {
     let mut rounds = 40;
     let mut only = None;
+    let mut alone: Option<Length> = None;
     let mut words = std::env::args().skip(1);
     while let Some(word) = words.next() {
         match (word.as_str(), words.next()) {
@@ -107,6 +114,8 @@ fn main() -> ExitCode {
                 rounds = value.parse().unwrap_or(rounds);
             }
             ("--only", Some(value)) => only = Some(value),
+            ("--alone", Some(value)) if value == "old" => alone = Some(original),
+            ("--alone", Some(value)) if value == "new" => alone = Some(proved),
             _ => {
                 eprint!("bench: cannot make sense of: {word} ..\n{USAGE}");
                 return ExitCode::from(2);
@@ -125,6 +134,16 @@ fn main() -> ExitCode {
         }
     }
 
+    if let Some(side) = alone {
+        for corpus in corpora.iter().chain(&lengths) {
+            for _ in 0..rounds {
+                black_box(pass(black_box(corpus), side));
+            }
+            let tokens = count_tokens(&corpus.bytes, yson(corpus.format));
+            println!("{}\t{}\t{tokens}", corpus.name, corpus.bytes.len());
+        }
+        return ExitCode::SUCCESS;
+    }
     println!(
         "Machine: {}. Best of {rounds} rounds by turns; ratio is time of the proved scan by time of the Rust, below 1 is faster.",
         std::env::consts::ARCH

@@ -216,6 +216,16 @@ fn token_at(bytes: &[u8], place: usize, format: YsonFormat) -> Result<Found<'_>,
     }
 }
 
+/// How many tokens stand in the bytes, up to the first that is not whole.
+pub fn count_tokens(bytes: &[u8], format: YsonFormat) -> u64 {
+    let mut lexer = YsonIterator::new(bytes, format == YsonFormat::Binary);
+    let mut tokens = 0;
+    while lexer.next_token().is_ok() {
+        tokens += 1;
+    }
+    tokens
+}
+
 fn put_no_token(line: &mut Vec<u8>, why: NoToken) {
     match why {
         NoToken::More => line.extend_from_slice(b"more"),

@@ -152,25 +152,35 @@ fn measure(
             println!("{:24} {:5.2}", corpus.name, ratio(new, old));
         }
     }
-    println!("the reader, time per byte of streams of 1 KB, 8 KB and 64 KB, to that of 64 KB");
+    println!("the reader, time per byte of one stream of 1 KB, 8 KB, 64 KB, 512 KB, 4 MB and 64 MB, to that of 64 MB");
     for corpus in all() {
-        if corpus.name == "tiny records" {
-            let mut times = Vec::new();
-            for length in [1 << 10, 8 << 10, N] {
-                let bytes = &corpus.bytes[..last_separator(&corpus.bytes[..length])];
-                let (new, _) = delivered(folder, rounds, bytes, N, deliveries)?;
-                times.push(new.as_secs_f64() / bytes.len() as f64);
+        if corpus.format == Format::Binary {
+            let rows = [1 << 10, 8 << 10, N, 8 * N, 64 * N, FILE].map(|length| {
+                let bytes = corpus.bytes[..last_separator(&corpus.bytes[..length.min(N)])].to_vec();
+                let times = (length / N).max(1) as u32;
+                let units = bytes.len() * times as usize;
+                Row {
+                    bytes,
+                    times,
+                    units,
+                }
+            });
+            if rows.iter().all(|row| !row.bytes.is_empty()) {
+                let times = by_turns(folder, rounds, &rows, deliveries)?;
+                println!("{:24} {}", corpus.name, to_last(&times));
             }
-            println!("{:24} {}", corpus.name, to_last(&times));
         }
     }
     println!("the reader, time per token at depths 1, 16, 64 and 128, to that at 128");
-    let mut times = Vec::new();
-    for depth in [1, 16, 64, 128] {
-        let (bytes, tokens) = nested(depth);
-        let (new, _) = delivered(folder, rounds, &bytes, N, deliveries)?;
-        times.push(new.as_secs_f64() / tokens as f64);
-    }
+    let rows = [1, 16, 64, 128].map(|depth| {
+        let (bytes, units) = nested(depth);
+        Row {
+            bytes,
+            times: 1,
+            units,
+        }
+    });
+    let times = by_turns(folder, rounds, &rows, deliveries)?;
     println!("{:24} {}", "integers in lists", to_last(&times));
     println!("one record of {N} bytes in deliveries: nanoseconds a delivery, and to the framing");
     let record = long_record();
@@ -318,6 +328,51 @@ fn framed(bytes: &[u8], size: usize) -> u64 {
     records
 }
 
+/// What program `deliveries` reads: the bytes so many times in one stream, in pieces of one size, and that stream so many times.
+fn write_input(path: &Path, bytes: &[u8], size: usize, passes: u32, times: u32) -> io::Result<()> {
+    let mut all = (size as u32).to_le_bytes().to_vec();
+    all.extend(passes.to_le_bytes());
+    all.extend(times.to_le_bytes());
+    all.extend_from_slice(bytes);
+    std::fs::write(path, all)
+}
+
+/// A stream: some bytes so many times, and how many bytes or tokens that is.
+struct Row {
+    bytes: Vec<u8>,
+    times: u32,
+    units: usize,
+}
+
+/// The time per unit of each stream, whole deliveries. Each row is passed over until it has come to some 64 MB; the rows take turns, and
+/// the best turn of each counts.
+fn by_turns(folder: &Path, rounds: u32, rows: &[Row], words: &[String]) -> io::Result<Vec<f64>> {
+    let mut files = Vec::new();
+    for (index, row) in rows.iter().enumerate() {
+        let passes = (FILE / (row.bytes.len() * row.times as usize)).max(1) as u32;
+        let many = folder.join(format!("row-{index}"));
+        let none = folder.join(format!("row-{index}-none"));
+        write_input(&many, &row.bytes, N, passes, row.times)?;
+        write_input(&none, &row.bytes, N, 0, row.times)?;
+        files.push((many, none, passes));
+    }
+    let mut best = vec![[Duration::MAX; 2]; rows.len()];
+    for _ in 0..rounds.max(3) {
+        for (index, (many, none, _)) in files.iter().enumerate() {
+            best[index][0] = best[index][0].min(run(words, many, None)?);
+            best[index][1] = best[index][1].min(run(words, none, None)?);
+        }
+    }
+    Ok(rows
+        .iter()
+        .zip(&files)
+        .zip(&best)
+        .map(|((row, (_, _, passes)), [time, start])| {
+            time.saturating_sub(*start).as_secs_f64() / (f64::from(*passes) * row.units as f64)
+        })
+        .collect())
+}
+
 /// The time of one pass over a stream in memory: the reader's, and the framing's.
 fn delivered(
     folder: &Path,
@@ -328,10 +383,7 @@ fn delivered(
 ) -> io::Result<(Duration, Duration)> {
     let input = |passes: u32| -> io::Result<std::path::PathBuf> {
         let path = folder.join(format!("deliveries-{passes}"));
-        let mut all = (size as u32).to_le_bytes().to_vec();
-        all.extend(passes.to_le_bytes());
-        all.extend_from_slice(bytes);
-        std::fs::write(&path, all)?;
+        write_input(&path, bytes, size, passes, 1)?;
         Ok(path)
     };
     // Enough passes that the start of the process does not count.

@@ -1,6 +1,6 @@
 -- The open blocks as a state keeps them: one byte for each, the outermost first, and what is due in the innermost.
 use Prim.Native.Nat.{ℕ, zero, suc, _-_}
-use mathlib.Core.Bool.{Bool, true, false, _&&_, _||_}
+use mathlib.Core.Bool.{Bool, true, false, not, _&&_, _||_}
 use mathlib.Core.List.{List, [], _∷_}
 use lib.Dec.{eqb, ltb, leb}
 use lib.ListN.{length, getD, set, replicate}
@@ -90,29 +90,28 @@ unfoldable pub kindsKnown : ℕ → List ℕ → Bool
 kindsKnown zero kinds = true
 kindsKnown (suc n) kinds = kindKnown (getD kinds n 0) && kindsKnown n kinds
 
--- what the innermost block, or none, takes: a value and the object behind its attributes where no block is open, an item and such an
--- object in a list, and in a map or an attribute block a key, `=`, the value and its object
+-- the innermost block is a list
+abbrev pub inList : List Block → Bool
+inList [] = false
+inList (list ∷ K) = true
+inList (map ∷ K) = false
+inList (attributes ∷ K) = false
+
+-- it is a map or an attribute block
+abbrev pub inPairs : List Block → Bool
+inPairs [] = false
+inPairs (list ∷ K) = false
+inPairs (map ∷ K) = true
+inPairs (attributes ∷ K) = true
+
+-- what the innermost block, or none, takes: a list items, a map or an attribute block keys and `=`; a value that is no item stands in no
+-- list; and behind its attributes any value goes on
 unfoldable pub takes : List Block → automaton.Due → Bool
-takes [] value = true
-takes [] object = true
-takes [] item = false
-takes [] key = false
-takes [] equals = false
-takes (list ∷ K) value = false
-takes (list ∷ K) object = true
-takes (list ∷ K) item = true
-takes (list ∷ K) key = false
-takes (list ∷ K) equals = false
-takes (map ∷ K) value = true
-takes (map ∷ K) object = true
-takes (map ∷ K) item = false
-takes (map ∷ K) key = true
-takes (map ∷ K) equals = true
-takes (attributes ∷ K) value = true
-takes (attributes ∷ K) object = true
-takes (attributes ∷ K) item = false
-takes (attributes ∷ K) key = true
-takes (attributes ∷ K) equals = true
+takes K value = not (inList K)
+takes K object = true
+takes K item = inList K
+takes K key = inPairs K
+takes K equals = inPairs K
 
 -- ---- 28's tests of the open blocks
 

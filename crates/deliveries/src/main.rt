@@ -1,5 +1,6 @@
 // Frames a stream that is held in memory, delivered in pieces of one size, over and over: what does the reader itself cost?
-// Standard input: the size of a piece and the number of rounds (4 bytes each, little endian), then the stream, at most 65,536 bytes.
+// Standard input: the size of a piece, the number of rounds and how many times the bytes come in one stream (4 bytes each, little endian),
+// then these bytes, at most 65,536.
 // Prints how many records were handed out and how many readings that took, over all rounds; bench/ takes the time from outside.
 ghost use Prim.Native.Nat.{_+_, _≤_, _<_};
 ghost use lib.ListN.{length};
@@ -96,8 +97,41 @@ fn offered(buf: &mut [u8], stream: &[u8], from: usize, size: usize, before: Stat
     }
 }
 
-// The stream once, in pieces.
-fn once(buf: &mut [u8], stream: &[u8], size: usize, records: u64, readings: u64) -> Round {
+// The bytes once, in pieces.
+fn passed(buf: &mut [u8], stream: &[u8], size: usize, before: Round) -> Round {
+    let mut r = before;
+    let mut from = 0;
+    while from < stream.len() {
+        let kept = r.state;
+        let p = offered(buf, stream, from, size, kept);
+        let state = p.state;
+        let count = p.count;
+        if count == 0 {
+            return Round {
+                state,
+                records: r.records,
+                readings: r.readings,
+                on: false,
+            };
+        }
+        from += count;
+        r = drain(buf, state, r.records, r.readings);
+        if !r.on {
+            return r;
+        }
+    }
+    r
+}
+
+// One stream: the bytes so many times, and its end.
+fn once(
+    buf: &mut [u8],
+    stream: &[u8],
+    size: usize,
+    times: u64,
+    records: u64,
+    readings: u64,
+) -> Round {
     let opened = reader::open(0, buf);
     let first = opened.state;
     let mut r = Round {
@@ -106,17 +140,10 @@ fn once(buf: &mut [u8], stream: &[u8], size: usize, records: u64, readings: u64)
         readings,
         on: true,
     };
-    let mut from = 0;
-    while from < stream.len() {
-        let before = r.state;
-        let p = offered(buf, stream, from, size, before);
-        let state = p.state;
-        let count = p.count;
-        if count == 0 {
-            return r;
-        }
-        from += count;
-        r = drain(buf, state, r.records, r.readings);
+    let mut turns = times;
+    while turns > 0 {
+        turns -= 1;
+        r = passed(buf, stream, size, r);
         if !r.on {
             return r;
         }
@@ -133,12 +160,12 @@ struct Counts {
     readings: u64,
 }
 
-fn rounds(buf: &mut [u8], stream: &[u8], size: usize, count: u64) -> Counts {
+fn rounds(buf: &mut [u8], stream: &[u8], size: usize, count: u64, times: u64) -> Counts {
     let mut records: u64 = 0;
     let mut readings: u64 = 0;
     let mut turns = count;
     while turns > 0 {
-        let r = once(buf, stream, size, records, readings);
+        let r = once(buf, stream, size, times, records, readings);
         records = r.records;
         readings = r.readings;
         turns -= 1;
@@ -164,12 +191,13 @@ fn say(word: &[u8]) {
 }
 
 fn run(buf: &mut [u8], stream: &mut [u8]) {
-    let mut head = [0u8; 8];
+    let mut head = [0u8; 12];
     io::read_full(STDIN_FILENO, &mut head);
     let size = little4(head[0], head[1], head[2], head[3]);
     let count = little4(head[4], head[5], head[6], head[7]);
+    let times = little4(head[8], head[9], head[10], head[11]);
     let n = io::read_full(STDIN_FILENO, stream);
-    let c = rounds(buf, &stream[..n], size as usize, count);
+    let c = rounds(buf, &stream[..n], size as usize, count, times);
     say(b"records ");
     io::print_decimal(STDOUT_FILENO, c.records);
     say(b" readings ");

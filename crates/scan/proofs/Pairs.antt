@@ -19,6 +19,8 @@ use Rattle.scan.specs.Step.{Block, map, attributes, value, key, equals, 
 use Rattle.scan.specs.Walk.{arrive, walk}
 use Rattle.scan.specs.Post.{answerOf, Begun, Pairs, Along, blockOf, dueOf}
 use Rattle.scan.proofs.Arms.{opens-attributes, opens-map, map-closed, equals-is, key-next, after-key}
+use Rattle.scan.proofs.Tokens.{skip-on, skip-here}
+use Rattle.scan.proofs.Laws.{walk-skip}
 use Rattle.scan.proofs.Parts.{Here, stop, on, too, into, begun-in, begun-attributed, attributed-in, attributed-then, string-run, scalar-run}
 
 -- 0. The two truth values are not one
@@ -59,41 +61,42 @@ along-as f g s at q e x = subst (λ (f : Format). Along f s at q) (sym e) x
 pub along-none : (f : Format) (s : List ℕ) (at : ℕ) → Along f s at at
 along-none f s at = (omega arith, λ b K. refl)
 
+-- binary ignores nothing, and its ends are those of the format
 module _ (s : List ℕ) where
-  bare : (p : ℕ) → skipOf Binary s p ≡ p
+  pub bare : (p : ℕ) → p ≡ skipOf Binary s p
   unfolding skipOf
   bare p = refl
 
-  key-ends : (p q : ℕ) → q ≡ stringEnd (kindsOf (binaryFrom s p)) → q ≡ stringEnd (kindAt Binary s p)
+  pub key-ends : (p q : ℕ) → q ≡ stringEnd (kindsOf (binaryFrom s p)) → q ≡ stringEnd (kindAt Binary s p)
   unfolding kindAt tokenFrom
   key-ends p q e = e
 
-  value-ends : (p q : ℕ) → q ≡ scalarEnd (kindsOf (binaryFrom s p)) → q ≡ scalarEnd (kindAt Binary s p)
+  pub value-ends : (p q : ℕ) → q ≡ scalarEnd (kindsOf (binaryFrom s p)) → q ≡ scalarEnd (kindAt Binary s p)
   unfolding kindAt tokenFrom
   value-ends p q e = e
 
-  module _ (from at k q : ℕ) (until : Along Binary s from at) (key-is : k ≡ stringEnd (kindsOf (binaryFrom s at))) (some : k ≡ 0 → ⊥) (within : k < length s)
-      (byte : getD s k 0 ≡ 0x3D) (value-is : q ≡ scalarEnd (kindsOf (binaryFrom s (k + 1)))) (any : q ≡ 0 → ⊥) where
-    -- a key, `=` and a scalar
-    pub along-pair : Along Binary s from q
-    unfolding arrive
-    along-pair =
-        let g = string-run Binary s at k some (key-ends at k key-is) in
-        let h = scalar-run Binary s (k + 1) q any false (value-ends (k + 1) q value-is) in (
-          omega (arith, until .0, g .1, h .1),
-          λ b K. until .1 b K ∙ g .0 (blockOf b ∷ K) ∙ on Binary s k (bare k) equals-stands within byte (blockOf b ∷ K) equals (go (blockOf b ∷ K) value) (equals-is (blockOf b ∷ K)) ∙ h .0 (blockOf b ∷ K) ∙ ap (arrive (walk Binary s) q q) (after-key b K),
-        )
+-- a key up to k, `=` at p and a scalar up to q
+module _ (f : Format) (s : List ℕ) (from at k p q : ℕ) (until : Along f s from at) (key-is : k ≡ stringEnd (kindAt f s at)) (some : k ≡ 0 → ⊥) (skips : p ≡ skipOf f s k)
+    (within : p < length s) (byte : getD s p 0 ≡ 0x3D) (value-is : q ≡ scalarEnd (kindAt f s (p + 1))) (any : q ≡ 0 → ⊥) where
+  pub along-pair : Along f s from q
+  unfolding arrive
+  along-pair =
+      let g = string-run f s at k some key-is in
+      let h = scalar-run f s (p + 1) q any false value-is in (
+        omega (arith, until .0, g .1, h .1, skip-on f s k p skips),
+        λ b K. until .1 b K ∙ g .0 (blockOf b ∷ K) ∙ walk-skip f s k (blockOf b ∷ K) equals p skips ∙ on f s p (skip-here f s k p skips) equals-stands within byte (blockOf b ∷ K) equals (go (blockOf b ∷ K) value) (equals-is (blockOf b ∷ K)) ∙ h .0 (blockOf b ∷ K) ∙ ap (arrive (walk f s) q q) (after-key b K),
+      )
 
-    pub pair-grows : (at < q) × (q ≤ length s)
-    pair-grows =
-        let g = string-run Binary s at k some (key-ends at k key-is) in
-        let h = scalar-run Binary s (k + 1) q any false (value-ends (k + 1) q value-is) in
-        (omega (arith, g .1, h .1), h .2)
+  pub pair-grows : (at < q) × (q ≤ length s)
+  pair-grows =
+      let g = string-run f s at k some key-is in
+      let h = scalar-run f s (p + 1) q any false value-is in
+      (omega (arith, g .1, h .1, skip-on f s k p skips), h .2)
 
-    -- and `;`
-    pub along-next : q < length s → getD s q 0 ≡ 0x3B → Along Binary s from (q + 1)
-    unfolding arrive
-    along-next l i = (
-      omega (arith, along-pair .0),
-      λ b K. along-pair .1 b K ∙ on Binary s q (bare q) separator-stands l i (blockOf b ∷ K) key (go (blockOf b ∷ K) key) (key-next (blockOf b ∷ K)),
-    )
+  -- and `;` at r
+  pub along-next : (r : ℕ) → r ≡ skipOf f s q → r < length s → getD s r 0 ≡ 0x3B → Along f s from (r + 1)
+  unfolding arrive
+  along-next r e l i = (
+    omega (arith, along-pair .0, skip-on f s q r e),
+    λ b K. along-pair .1 b K ∙ walk-skip f s q (blockOf b ∷ K) key r e ∙ on f s r (skip-here f s q r e) separator-stands l i (blockOf b ∷ K) key (go (blockOf b ∷ K) key) (key-next (blockOf b ∷ K)),
+  )

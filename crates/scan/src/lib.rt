@@ -7,7 +7,7 @@ ghost use mathlib.Core.Bool.{true, false};
 ghost use mathlib.Core.Logic.{_⊎_};
 ghost use Prim.Native.Nat.{_≤_, _<_};
 ghost use lib.ListN.{length};
-ghost use Rattle.refusal.specs.declared.Format.the-variants.{Binary};
+ghost use Rattle.refusal.specs.declared.Format.the-variants.{Binary, Text};
 ghost use Rattle.lexer.specs.Lexer.{kindAt, skipOf};
 ghost use Rattle.scan.specs.Limit.{mostOpen};
 ghost use Rattle.scan.specs.Walk.{scanOf};
@@ -276,13 +276,45 @@ fn past_flat(input: &[u8], from: usize) -> usize
     }
 }
 
-// The same in either format, where text has none that are passed so.
+// The same in text, where a key may be long and blanks and comments may stand between.
+fn past_text(input: &[u8], from: usize) -> usize
+    ensures { λ r. ⌜ Along Text (now (input .entry)) from r ⌝ }
+{
+    let mut at = from;
+    loop {
+        let key = lexer::string_end(input, at, Format::Text);
+        if key == 0 {
+            return at;
+        }
+        let p = lexer::skip(input, key, Format::Text);
+        if input.len() <= p {
+            return at;
+        }
+        if input[p] != b'=' {
+            return at;
+        }
+        let end = lexer::scalar_end(input, p + 1, Format::Text);
+        if end == 0 {
+            return at;
+        }
+        let q = lexer::skip(input, end, Format::Text);
+        if input.len() <= q {
+            return end;
+        }
+        if input[q] != b';' {
+            return end;
+        }
+        at = q + 1;
+    }
+}
+
+// The same in either format.
 fn past_pairs(input: &[u8], at: usize, format: Format) -> usize
     ensures { λ r. ⌜ Along format (now (input .entry)) at r ⌝ }
 {
     match format {
         Format::Binary => past_flat(input, at),
-        Format::Text => at,
+        Format::Text => past_text(input, at),
     }
 }
 

@@ -1,4 +1,3 @@
-use Prim.Native.Nat.{_-_}
 use borrow.Author.Needs.{needs}
 use lib.ListN.{length}
 use mathlib.Core.Path.{_≡_}
@@ -6,10 +5,10 @@ use Rattle.deliveries.proofs.once.Statement.{statement}
 use Rattle.deliveries.proofs.once.Tie as tie
 
 abbrev Inv-loop : tie.InvT-loop
-Inv-loop buf₀ stream size records readings r₀ from₀ buf r from = (length buf ≡ length buf₀)
+Inv-loop buf₀ stream size times records readings r₀ turns₀ buf r turns = (length buf ≡ length buf₀)
 
 abbrev μ-loop : tie.MeasureT-loop
-μ-loop buf₀ stream size records readings r₀ from₀ buf r from = length stream - from
+μ-loop buf₀ stream size times records readings r₀ turns₀ buf r turns = turns
 
 open-requires : tie.Need-open-requires Inv-loop μ-loop
 open-requires c κs = search needs
@@ -17,26 +16,17 @@ open-requires c κs = search needs
 loop-holds : tie.Need-loop-holds Inv-loop μ-loop
 loop-holds c = search needs
 
-offered-requires : tie.Need-offered-requires Inv-loop μ-loop
-offered-requires c κs = search needs
+sub-turns : tie.Need-sub-turns Inv-loop μ-loop
+sub-turns c = search needs
+
+passed-requires : tie.Need-passed-requires Inv-loop μ-loop
+passed-requires c κs = search needs
 
 same-length : tie.Need-same-length Inv-loop μ-loop
 same-length c = search needs
 
 returns : tie.Need-returns Inv-loop μ-loop
 returns c = search needs
-
-add-from : tie.Need-add-from Inv-loop μ-loop
-add-from c = search needs
-
-drain-requires : tie.Need-drain-requires Inv-loop μ-loop
-drain-requires c κs = search needs
-
-same-length-2 : tie.Need-same-length-2 Inv-loop μ-loop
-same-length-2 c = search needs
-
-returns-2 : tie.Need-returns-2 Inv-loop μ-loop
-returns-2 c = search needs
 
 loop-less : tie.Need-loop-less Inv-loop μ-loop
 loop-less c = search needs
@@ -47,14 +37,14 @@ loop-again c = search needs
 close-requires : tie.Need-close-requires Inv-loop μ-loop
 close-requires c κs = search needs
 
-drain-requires-2 : tie.Need-drain-requires-2 Inv-loop μ-loop
-drain-requires-2 c κs = search needs
+drain-requires : tie.Need-drain-requires Inv-loop μ-loop
+drain-requires c κs = search needs
 
-same-length-3 : tie.Need-same-length-3 Inv-loop μ-loop
-same-length-3 c = search needs
+same-length-2 : tie.Need-same-length-2 Inv-loop μ-loop
+same-length-2 c = search needs
 
-returns-3 : tie.Need-returns-3 Inv-loop μ-loop
-returns-3 c = search needs
+returns-2 : tie.Need-returns-2 Inv-loop μ-loop
+returns-2 c = search needs
 
 pub once-spec : {M : Type 1} → statement M
 once-spec =
@@ -64,16 +54,13 @@ once-spec =
     μ-loop
     open-requires
     loop-holds
-    offered-requires
+    sub-turns
+    passed-requires
     same-length
     returns
-    add-from
-    drain-requires
-    same-length-2
-    returns-2
     loop-less
     loop-again
     close-requires
-    drain-requires-2
-    same-length-3
-    returns-3)
+    drain-requires
+    same-length-2
+    returns-2)

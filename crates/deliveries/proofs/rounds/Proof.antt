@@ -5,10 +5,10 @@ use Rattle.deliveries.proofs.rounds.Statement.{statement}
 use Rattle.deliveries.proofs.rounds.Tie as tie
 
 abbrev Inv-loop : tie.InvT-loop
-Inv-loop buf₀ stream size count records₀ readings₀ turns₀ buf records readings turns = (length buf ≡ length buf₀)
+Inv-loop buf₀ stream size count times records₀ readings₀ turns₀ buf records readings turns = (length buf ≡ length buf₀)
 
 abbrev μ-loop : tie.MeasureT-loop
-μ-loop buf₀ stream size count records₀ readings₀ turns₀ buf records readings turns = turns
+μ-loop buf₀ stream size count times records₀ readings₀ turns₀ buf records readings turns = turns
 
 loop-holds : tie.Need-loop-holds Inv-loop μ-loop
 loop-holds c = search needs

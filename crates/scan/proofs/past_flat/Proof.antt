@@ -6,7 +6,7 @@ use borrow.Author.Needs.{needs}
 use Rattle.refusal.specs.declared.Format.the-variants.{Binary}
 use Rattle.binary_ends.proofs.Short.{short-string}
 use Rattle.scan.specs.Post.{Along}
-use Rattle.scan.proofs.Pairs.{along-none, along-pair, along-next, pair-grows}
+use Rattle.scan.proofs.Pairs.{along-none, bare, key-ends, value-ends, along-pair, along-next, pair-grows}
 use Rattle.scan.proofs.past_flat.Statement.{statement}
 use Rattle.scan.proofs.past_flat.Tie as tie
 
@@ -44,22 +44,22 @@ returns-4 : tie.Need-returns-4 Inv-loop μ-loop
 returns-4 c = c .before .before .before .before .before .before .before .loop .inv
 
 returns-5 : tie.Need-returns-5 Inv-loop μ-loop
-returns-5 c = along-pair _ _ _ _ _ (c .before .before .before .before .before .before .before .before .loop .inv) (short-string _ _ _ (c .before .before .before .before .before .before .before .short-string-end .ensures) (c .before .before .before .before .before .before .if1 .left)) (c .before .before .before .before .before .before .if1 .left) (c .before .before .before .before .before .if2 .left) (c .before .before .before .if3 .left) (c .before .before .scalar-end .ensures) (c .before .if4 .left)
+returns-5 c = along-pair Binary _ _ _ _ _ _ (c .before .before .before .before .before .before .before .before .loop .inv) (key-ends _ _ _ (short-string _ _ _ (c .before .before .before .before .before .before .before .short-string-end .ensures) (c .before .before .before .before .before .before .if1 .left))) (c .before .before .before .before .before .before .if1 .left) (bare _ _) (c .before .before .before .before .before .if2 .left) (c .before .before .before .if3 .left) (value-ends _ _ _ (c .before .before .scalar-end .ensures)) (c .before .if4 .left)
 
 shared-slice-read-if6 : tie.Need-shared-slice-read-if6 Inv-loop μ-loop
 shared-slice-read-if6 c = search needs
 
 returns-6 : tie.Need-returns-6 Inv-loop μ-loop
-returns-6 c = along-pair _ _ _ _ _ (c .before .before .before .before .before .before .before .before .before .before .loop .inv) (short-string _ _ _ (c .before .before .before .before .before .before .before .before .before .short-string-end .ensures) (c .before .before .before .before .before .before .before .before .if1 .left)) (c .before .before .before .before .before .before .before .before .if1 .left) (c .before .before .before .before .before .before .before .if2 .left) (c .before .before .before .before .before .if3 .left) (c .before .before .before .before .scalar-end .ensures) (c .before .before .before .if4 .left)
+returns-6 c = along-pair Binary _ _ _ _ _ _ (c .before .before .before .before .before .before .before .before .before .before .loop .inv) (key-ends _ _ _ (short-string _ _ _ (c .before .before .before .before .before .before .before .before .before .short-string-end .ensures) (c .before .before .before .before .before .before .before .before .if1 .left))) (c .before .before .before .before .before .before .before .before .if1 .left) (bare _ _) (c .before .before .before .before .before .before .before .if2 .left) (c .before .before .before .before .before .if3 .left) (value-ends _ _ _ (c .before .before .before .before .scalar-end .ensures)) (c .before .before .before .if4 .left)
 
 add-at : tie.Need-add-at Inv-loop μ-loop
 add-at c = search needs
 
 loop-less : tie.Need-loop-less Inv-loop μ-loop
-loop-less c = let g = pair-grows _ _ _ _ _ (c .before .before .before .before .before .before .before .before .before .before .loop .inv) (short-string _ _ _ (c .before .before .before .before .before .before .before .before .before .short-string-end .ensures) (c .before .before .before .before .before .before .before .before .if1 .left)) (c .before .before .before .before .before .before .before .before .if1 .left) (c .before .before .before .before .before .before .before .if2 .left) (c .before .before .before .before .before .if3 .left) (c .before .before .before .before .scalar-end .ensures) (c .before .before .before .if4 .left) in omega (arith, g .0, g .1)
+loop-less c = let g = pair-grows Binary _ _ _ _ _ _ (c .before .before .before .before .before .before .before .before .before .before .loop .inv) (key-ends _ _ _ (short-string _ _ _ (c .before .before .before .before .before .before .before .before .before .short-string-end .ensures) (c .before .before .before .before .before .before .before .before .if1 .left))) (c .before .before .before .before .before .before .before .before .if1 .left) (bare _ _) (c .before .before .before .before .before .before .before .if2 .left) (c .before .before .before .before .before .if3 .left) (value-ends _ _ _ (c .before .before .before .before .scalar-end .ensures)) (c .before .before .before .if4 .left) in omega (arith, g .0, g .1)
 
 loop-again : tie.Need-loop-again Inv-loop μ-loop
-loop-again c = along-next _ _ _ _ _ (c .before .before .before .before .before .before .before .before .before .before .loop .inv) (short-string _ _ _ (c .before .before .before .before .before .before .before .before .before .short-string-end .ensures) (c .before .before .before .before .before .before .before .before .if1 .left)) (c .before .before .before .before .before .before .before .before .if1 .left) (c .before .before .before .before .before .before .before .if2 .left) (c .before .before .before .before .before .if3 .left) (c .before .before .before .before .scalar-end .ensures) (c .before .before .before .if4 .left) (c .before .before .if5 .left) (c .if6 .left)
+loop-again c = along-next Binary _ _ _ _ _ _ (c .before .before .before .before .before .before .before .before .before .before .loop .inv) (key-ends _ _ _ (short-string _ _ _ (c .before .before .before .before .before .before .before .before .before .short-string-end .ensures) (c .before .before .before .before .before .before .before .before .if1 .left))) (c .before .before .before .before .before .before .before .before .if1 .left) (bare _ _) (c .before .before .before .before .before .before .before .if2 .left) (c .before .before .before .before .before .if3 .left) (value-ends _ _ _ (c .before .before .before .before .scalar-end .ensures)) (c .before .before .before .if4 .left) _ (bare _ _) (c .before .before .if5 .left) (c .if6 .left)
 
 pub past-flat-spec : {M : Type 1} → statement M
 past-flat-spec =
