@@ -1,15 +1,17 @@
 -- One law for each way through the definitions of digits and escapes.
-use mathlib.Core.Path.{_≡_, refl, sym, ap, _∙_}
+use mathlib.Core.Path.{_≡_, refl}
+use mathlib.Core.Bool.{Bool, true, false}
 use mathlib.Core.List.{List, [], _∷_}
-use Prim.Native.Nat.{ℕ, zero, suc, _+_, _*_, _-_, _/_, _%_, _<_, _≤_}
+use Prim.Native.Nat.{ℕ, suc, _+_, _*_, _-_, _<_, _≤_}
 use native.Mathlib.Omega.{arith}
 use native.Mathlib.Nat.{not-suc-le-zero, le-of-suc-le-suc}
 use borrow.Author.Tests.{lt-ltb, le-ltb, le-leb, lt-leb, eq-eqb, ne-eqb}
+use lib.Dec.{eqb, leb}
 use lib.ListN.{length, getD, drop, drop-of-length-le}
 use lib.Seq.{drop-cons}
-use Rattle.pieces.specs.Bytes.{hexDigit, octalDigit}
-use Rattle.pieces.specs.Pieces.{End, closed, badHex, cut, Piece, byte, ends, hexOf, thirdOf, octalOf, escapeOf}
-use Rattle.pieces.specs.Numbers.{pieceBy, Sized}
+use Rattle.refusal.specs.Paper.{pick}
+use Rattle.pieces.specs.Bytes.{plus, hexDigit, isHex, octalDigit, isOctal}
+use Rattle.pieces.specs.Pieces.{badHex, cut, Piece, byte, ends, hexOf, thirdOf, octalOf, escapeOf}
 
 module _ (b : ℕ) where
   pub hex-low : b < 48 → 16 ≡ hexDigit b
@@ -51,58 +53,6 @@ module _ (b : ℕ) where
   pub octal-high : 55 < b → 8 ≡ octalDigit b
   unfolding octalDigit
   octal-high h = rw (le-ltb b 48 (omega arith), lt-leb _ _ h)
-
--- an escape as one number
-pub by-cut : pieceBy 0 ≡ ends cut
-unfolding pieceBy
-by-cut = refl
-
-pub by-bad : pieceBy 1 ≡ ends badHex
-unfolding pieceBy
-by-bad = refl
-
-pub by-byte : (r v k : ℕ) → r ≡ k * 256 + v → v < 256 → 1 ≤ k → pieceBy r ≡ byte v k
-unfolding pieceBy
-by-byte r v k e h i = rw (ne-eqb r 0 (λ z. omega arith), ne-eqb r 1 (λ z. omega arith), low, high)
-  where
-    low : r % 256 ≡ v
-    low = omega arith
-
-    high : r / 256 ≡ k
-    high = omega arith
-
--- a whole escape, and one that fails
-takes : (v k : ℕ) (x : Piece) → v < 256 → 2 ≤ k → k ≤ 4 → byte v k ≡ x → (pieceBy (k * 256 + v) ≡ x) × Sized (k * 256 + v)
-takes v k x h i j e = (by-byte _ v k refl h (omega arith) ∙ e, record { least = λ g. omega arith; most = omega arith })
-
-pub takes-byte : (v : ℕ) (x : Piece) → v < 256 → byte v 2 ≡ x → (pieceBy (512 + v) ≡ x) × Sized (512 + v)
-takes-byte v x h e = takes v 2 x h (omega arith) (omega arith) e
-
-pub fails-cut : (x : Piece) → ends cut ≡ x → (pieceBy 0 ≡ x) × Sized 0
-fails-cut x e = (by-cut ∙ e, record { least = λ g. omega arith; most = omega arith })
-
-pub fails-bad : (x : Piece) → ends badHex ≡ x → (pieceBy 1 ≡ x) × Sized 1
-fails-bad x e = (by-bad ∙ e, record { least = λ g. omega arith; most = omega arith })
-
--- one digit, two and three of an octal escape, or two hex digits
-pub takes-two : (v : ℕ) (x : Piece) → v < 8 → byte v 2 ≡ x → (pieceBy (512 + v) ≡ x) × Sized (512 + v)
-takes-two v x h e = takes v 2 x (omega arith) (omega arith) (omega arith) e
-
-pub takes-three : (v : ℕ) (x : Piece) → v < 64 → byte v 3 ≡ x → (pieceBy (768 + v) ≡ x) × Sized (768 + v)
-takes-three v x h e = takes v 3 x (omega arith) (omega arith) (omega arith) e
-
-pub takes-four : (v : ℕ) (x : Piece) → v ≤ 255 → byte v 4 ≡ x → (pieceBy (1024 + v) ≡ x) × Sized (1024 + v)
-takes-four v x h e = takes v 4 x (omega arith) (omega arith) (omega arith) e
-
-pub takes-hex : (a b : ℕ) (x : Piece) → a < 16 → b < 16 → byte (a * 16 + b) 4 ≡ x → (pieceBy (1024 + (a * 16 + b)) ≡ x) × Sized (1024 + (a * 16 + b))
-takes-hex a b x h i e = takes-four (a * 16 + b) x (omega arith) e
-
-pub takes-low : (v : ℕ) (x : Piece) → v < 16 → byte v 4 ≡ x → (pieceBy (1024 + v) ≡ x) × Sized (1024 + v)
-takes-low v x h e = takes-four v x (omega arith) e
-
-pub by-whole : (r : ℕ) → 2 ≤ r → pieceBy r ≡ byte (r % 256) (r / 256)
-unfolding pieceBy
-by-whole r h = rw (ne-eqb r 0 (λ z. omega arith), ne-eqb r 1 (λ z. omega arith))
 
 -- the bytes behind the first
 behind-two : (l : List ℕ) → 3 ≤ length l → drop 1 l ≡ getD l 1 0 ∷ (getD l 2 0 ∷ drop 3 l)
@@ -210,3 +160,51 @@ module _ (l : List ℕ) where
       pub escape-itself : 8 ≤ v → byte (getD l 0 0) 2 ≡ escapeOf l
       unfolding escapeOf
       escape-itself e = rw (all-of l h, ne-eqb _ _ a, ne-eqb _ _ b, ne-eqb _ _ c, ne-eqb _ _ d, ← is, le-ltb _ _ e)
+
+-- how many input bytes an escape takes
+abbrev Size : Piece → Type 0
+Size (byte v k) = (2 ≤ k) × (k ≤ 4)
+Size (ends e) = Unit
+
+either-size : (t : Bool) (x y : Piece) → Size x → Size y → Size (pick t x y)
+either-size true x y h i = h
+either-size false x y h i = i
+
+two : (2 ≤ 2) × (2 ≤ 4)
+two = (omega arith, omega arith)
+
+three : (2 ≤ 3) × (3 ≤ 4)
+three = (omega arith, omega arith)
+
+four : (2 ≤ 4) × (4 ≤ 4)
+four = (omega arith, omega arith)
+
+hex-size : (l : List ℕ) → Size (hexOf l)
+unfolding hexOf
+hex-size [] = tt
+hex-size (a ∷ []) = tt
+hex-size (a ∷ (b ∷ l)) = either-size (isHex b) _ _ (either-size (isHex a) _ _ four (either-size (eqb a plus) _ _ four tt)) tt
+
+third-size : (v : ℕ) (l : List ℕ) → Size (thirdOf v l)
+unfolding thirdOf
+third-size v [] = three
+third-size v (c ∷ l) = either-size (isOctal c) _ _ (either-size (leb (v * 8 + octalDigit c) 255) _ _ four three) three
+
+octal-size : (v : ℕ) (l : List ℕ) → Size (octalOf v l)
+unfolding octalOf
+octal-size v [] = two
+octal-size v (c ∷ l) = either-size (isOctal c) _ _ (third-size _ l) two
+
+escape-sized : (l : List ℕ) → Size (escapeOf l)
+unfolding escapeOf
+escape-sized [] = tt
+escape-sized (c ∷ l) =
+    either-size (eqb c 0x6E) _ _ two
+    (either-size (eqb c 0x72) _ _ two
+    (either-size (eqb c 0x74) _ _ two
+    (either-size (eqb c 0x78) _ _ (hex-size l)
+    (either-size (isOctal c) _ _ (octal-size _ l) two))))
+
+-- from two to four
+pub escape-size : (l : List ℕ) (v k : ℕ) → byte v k ≡ escapeOf l → (2 ≤ k) × (k ≤ 4)
+escape-size l v k e = rw (← e) at (escape-sized l)

@@ -1,27 +1,31 @@
--- No two numbers stand for the same escape: from the piece the number is found again. Assumes nothing.
+-- Two answers that a promise of `escape` or of `measure` allows are equal. Assumes nothing.
 use mathlib.Core.Path.{_≡_, refl, sym, ap, _∙_}
-use Prim.Native.Nat.{ℕ, zero, suc, _+_, _*_, _≤_}
-use native.Mathlib.Nat.{div-add-mod'}
-use native.Mathlib.Omega.{arith}
-use Rattle.pieces.specs.Pieces.{End, closed, badHex, cut, Piece, byte, ends}
-use Rattle.pieces.specs.Numbers.{pieceBy}
-use Rattle.pieces.proofs.Digits.{by-whole}
+use mathlib.Core.List.{List}
+use Prim.Native.Nat.{ℕ}
+use Rattle.pieces.specs.Pieces.{closed, badHex, cut, Piece, byte, ends, escapeOf, Walk}
+use Rattle.pieces.specs.Answers.{pieceMeaning, measureOf}
+use Rattle.pieces.specs.declared.Escaped.{Escaped}
+use Rattle.pieces.specs.declared.Escaped.the-variants.{Byte, Cut, Bad}
+use Rattle.pieces.specs.declared.Measured.{Measured}
 
-back : Piece → ℕ
-back (byte v n) = n * 256 + v
-back (ends closed) = 2
-back (ends badHex) = 1
-back (ends cut) = 0
+-- from the piece the answer is found again
+back : Piece → Escaped
+back (byte v n) = Byte v n
+back (ends closed) = Cut
+back (ends badHex) = Bad
+back (ends cut) = Cut
 
-back-whole : (r : ℕ) → 2 ≤ r → back (pieceBy r) ≡ r
+again : (r : Escaped) → back (pieceMeaning r) ≡ r
 unfolding back
-back-whole r h = ap back (by-whole r h) ∙ div-add-mod' r 256
+again (Byte v n) = refl
+again Cut = refl
+again Bad = refl
 
-again : (r : ℕ) → back (pieceBy r) ≡ r
-unfolding back pieceBy
-again zero = refl
-again (suc zero) = refl
-again (suc (suc r)) = back-whole (suc (suc r)) (omega arith)
-
-pub piece-injective : (a b : ℕ) → pieceBy a ≡ pieceBy b → a ≡ b
+pub piece-injective : (a b : Escaped) → pieceMeaning a ≡ pieceMeaning b → a ≡ b
 piece-injective a b e = sym (again a) ∙ ap back e ∙ again b
+
+pub one-escape : (l : List ℕ) (a b : Escaped) → pieceMeaning a ≡ escapeOf l → pieceMeaning b ≡ escapeOf l → a ≡ b
+one-escape l a b e f = piece-injective a b (e ∙ sym f)
+
+pub one-measure : (w : Walk) (a b : Measured) → a ≡ measureOf w → b ≡ measureOf w → a ≡ b
+one-measure w a b e f = e ∙ sym f

@@ -1,16 +1,18 @@
--- The pieces of a list by place: what holds from a place holds from the next, and what a count tells.
-use mathlib.Core.Path.{_≡_, refl, sym, ap, _∙_}
+-- The pieces of a list by place: what holds from a place holds from the next, and what a measure tells.
+use mathlib.Core.Path.{_≡_, refl, ap, _∙_}
 use mathlib.Core.List.{List, [], _∷_}
-use Prim.Native.Nat.{ℕ, zero, suc, _+_, _-_, _/_, _%_, _≤_, _<_}
-use native.Mathlib.Numerals.{add-one}
+use Prim.Native.Nat.{ℕ, zero, suc, _+_, _-_, _≤_, _<_}
+use native.Mathlib.Nat.{zero-add}
 use native.Mathlib.Omega.{arith}
 use borrow.Author.Tests.{eq-eqb, ne-eqb}
 use lib.ListN.{length, getD, drop, take, drop-of-length-le, length-drop}
 use lib.Seq.{drop-cons, drop-drop, take-all}
 use Rattle.search.proofs.Laws.{drop-more}
 use Rattle.pieces.specs.Pieces.{End, closed, badHex, cut, Piece, byte, ends, escapeOf, pieceOf, Walk, giving, onward, walk}
-use Rattle.pieces.specs.Numbers.{pieceBy, countBy, countOf}
-use Rattle.pieces.proofs.Digits.{by-cut, by-bad, by-whole}
+use Rattle.pieces.specs.Answers.{measuredAs, measureOf}
+use Rattle.pieces.specs.declared.Measured.{Measured}
+use Rattle.pieces.specs.declared.Measured.the-variants.{Closed, Cut, Bad}
+use Rattle.pieces.proofs.Digits.{escape-size}
 
 -- a piece at the front of a list
 module _ (b : ℕ) (l : List ℕ) where
@@ -63,82 +65,74 @@ module _ (s : List ℕ) (p : ℕ) where
     pub walk-plain : (getD s p 0 ≡ 34 → ⊥) → (getD s p 0 ≡ 92 → ⊥) → walk 0 (drop p s) ≡ giving (getD s p 0) (walk 0 (drop (p + 1) s))
     walk-plain m n = ap (walk 0) (drop-more s p h) ∙ walk-plain-cons _ _ m n
 
-    -- an escape, as the number that reading the part behind its backslash answers
-    module _ (b : getD s p 0 ≡ 92) (r : ℕ) (e : pieceBy r ≡ escapeOf (take (length s - (p + 1)) (drop (p + 1) s))) where
-      walk-escape : (k : Piece) → pieceBy r ≡ k → walk 0 (drop p s) ≡ onward k (λ n. walk n (drop (p + 1) s))
-      walk-escape k f =
+    -- an escape, as the piece that reading the part behind its backslash answers
+    module _ (b : getD s p 0 ≡ 92) where
+      walk-escape : (k : Piece) → k ≡ escapeOf (take (length s - (p + 1)) (drop (p + 1) s)) → walk 0 (drop p s) ≡ onward k (λ n. walk n (drop (p + 1) s))
+      walk-escape k e =
           ap (walk 0) (drop-more s p h) ∙
-          walk-cons _ _ k (sym f ∙ e ∙ ap escapeOf (rest (p + 1)) ∙ piece-escape _ _ b)
+          walk-cons _ _ k (e ∙ ap escapeOf (rest (p + 1)) ∙ piece-escape _ _ b)
         where
           rest : (q : ℕ) → take (length s - q) (drop q s) ≡ drop q s
           rest q = take-all (length s - q) (drop q s) (rw length-drop (omega arith))
 
-      pub walk-byte : 512 ≤ r → walk 0 (drop p s) ≡ giving (r % 256) (walk 0 (drop (p + r / 256) s))
-      walk-byte g =
-          walk-escape _ (by-whole r (omega arith)) ∙
-          ap (giving (r % 256)) (walk-skip (r / 256 - 1) (drop (p + 1) s) ∙ ap (walk 0) (drop-drop (r / 256 - 1) (p + 1) s ∙ ap (λ (n : ℕ). drop n s) same))
+      pub walk-byte : (v k : ℕ) → byte v k ≡ escapeOf (take (length s - (p + 1)) (drop (p + 1) s)) → walk 0 (drop p s) ≡ giving v (walk 0 (drop (p + k) s))
+      walk-byte v k e =
+          walk-escape _ e ∙
+          ap (giving v) (walk-skip (k - 1) (drop (p + 1) s) ∙ ap (walk 0) (drop-drop (k - 1) (p + 1) s ∙ ap (λ (n : ℕ). drop n s) same))
         where
-          same : p + 1 + (r / 256 - 1) ≡ p + r / 256
-          same = omega arith
+          same : p + 1 + (k - 1) ≡ p + k
+          same = omega (arith, escape-size _ v k e .0)
 
-      pub walk-failed : r < 2 → (n : ℕ) → (walk 0 (drop p s) .bytes ≡ []) × (r ≡ countOf n (walk 0 (drop p s)))
-      unfolding countOf
-      walk-failed l n = go r refl l
-        where
-          go : (x : ℕ) → r ≡ x → x < 2 → (walk 0 (drop p s) .bytes ≡ []) × (r ≡ countBy (walk 0 (drop p s) .end) (n + length (walk 0 (drop p s) .bytes)))
-          go zero f g = let w : walk 0 (drop p s) ≡ ending cut = walk-escape _ (ap pieceBy f ∙ by-cut) in (rw w, rw (w, f))
-          go (suc zero) f g = let w : walk 0 (drop p s) ≡ ending badHex = walk-escape _ (ap pieceBy f ∙ by-bad) in (rw w, rw (w, f))
-          go (suc (suc x)) f g = absurd (omega arith)
+      pub walk-ends : (x : End) → ends x ≡ escapeOf (take (length s - (p + 1)) (drop (p + 1) s)) → walk 0 (drop p s) ≡ ending x
+      walk-ends x e = walk-escape _ e
 
--- counting one byte more
-pub count-more : (n v : ℕ) (w : Walk) → countOf (n + 1) w ≡ countOf n (giving v w)
-unfolding countOf
-count-more n v w = ap (countBy (w .end)) same
-  where
-    same : n + 1 + length (w .bytes) ≡ n + suc (length (w .bytes))
-    same = omega arith
+-- what the bytes of a walk after n others measure
+unfoldable pub after : ℕ → Walk → Measured
+after n w = measuredAs (w .end) (n + length (w .bytes))
 
-pub count-closed : (n : ℕ) → n + 2 ≡ countOf n (ending closed)
-unfolding countOf
-count-closed n = omega arith
+pub after-none : (w : Walk) → after 0 w ≡ measureOf w
+unfolding after measureOf
+after-none w = ap (measuredAs (w .end)) (zero-add (length (w .bytes)))
 
-pub count-cut : (n : ℕ) → 0 ≡ countOf n (ending cut)
-unfolding countOf
-count-cut n = refl
+-- one byte more
+pub after-more : (n v : ℕ) (w : Walk) → after (n + 1) w ≡ after n (giving v w)
+unfolding after
+after-more n v w = ap (measuredAs (w .end)) (omega arith)
 
--- what a count tells of the end
-module _ (n : ℕ) (w : Walk) where
-  pub told-bad : 1 ≡ countOf n w → w .end ≡ badHex
-  unfolding countOf
+-- no byte more
+pub after-ends : (n : ℕ) (x : End) → measuredAs x n ≡ after n (ending x)
+unfolding after
+after-ends n x = ap (measuredAs x) (omega arith)
+
+-- what a measure tells of the end and of the bytes
+module _ (w : Walk) where
+  pub told-closed : (n : ℕ) → Closed n ≡ measureOf w → (w .end ≡ closed) × (n ≡ length (w .bytes))
+  unfolding measureOf
+  told-closed n e = go (w .end) e
+    where
+      go : (x : End) → Closed n ≡ measuredAs x (length (w .bytes)) → (x ≡ closed) × (n ≡ length (w .bytes))
+      go closed f = (refl, cc)
+      go badHex f = absurd (let z : _≡_ {A = ℕ} 0 1 = cc in omega arith)
+      go cut f = absurd (let z : _≡_ {A = ℕ} 0 1 = cc in omega arith)
+
+  pub told-bad : Bad ≡ measureOf w → w .end ≡ badHex
+  unfolding measureOf
   told-bad e = go (w .end) e
     where
-      go : (x : End) → 1 ≡ countBy x (n + length (w .bytes)) → x ≡ badHex
-      go closed f = absurd (omega arith)
+      go : (x : End) → Bad ≡ measuredAs x (length (w .bytes)) → x ≡ badHex
+      go closed f = absurd (let z : _≡_ {A = ℕ} 0 1 = cc in omega arith)
       go badHex f = refl
-      go cut f = absurd (omega arith)
+      go cut f = absurd (let z : _≡_ {A = ℕ} 0 1 = cc in omega arith)
 
-  pub told-cut : 0 ≡ countOf n w → w .end ≡ cut
-  unfolding countOf
+  pub told-cut : Cut ≡ measureOf w → w .end ≡ cut
+  unfolding measureOf
   told-cut e = go (w .end) e
     where
-      go : (x : End) → 0 ≡ countBy x (n + length (w .bytes)) → x ≡ cut
-      go closed f = absurd (omega arith)
-      go badHex f = absurd (omega arith)
+      go : (x : End) → Cut ≡ measuredAs x (length (w .bytes)) → x ≡ cut
+      go closed f = absurd (let z : _≡_ {A = ℕ} 0 1 = cc in omega arith)
+      go badHex f = absurd (let z : _≡_ {A = ℕ} 0 1 = cc in omega arith)
       go cut f = refl
 
-  pub told-whole : 2 ≤ countOf n w → (w .end ≡ closed) × (countOf n w ≡ n + length (w .bytes) + 2)
-  unfolding countOf
-  told-whole h = go (w .end) h
-    where
-      go : (x : End) → 2 ≤ countBy x (n + length (w .bytes)) → (x ≡ closed) × (countBy x (n + length (w .bytes)) ≡ n + length (w .bytes) + 2)
-      go closed f = (refl, refl)
-      go badHex f = absurd (omega arith)
-      go cut f = absurd (omega arith)
-
-  pub told-closed : (m : ℕ) → m ≡ countOf n w → 2 ≤ m → w .end ≡ closed
-  told-closed m e h = told-whole (omega arith) .0
-
--- the count of pieces that end at the closing quote
-pub told-length : (w : Walk) → w .end ≡ closed → countOf 0 w ≡ length (w .bytes) + 2
-unfolding countOf
-told-length w e = rw e (omega arith)
+  pub closed-measures : w .end ≡ closed → measureOf w ≡ Closed (length (w .bytes))
+  unfolding measureOf
+  closed-measures e = ap (λ (x : End). measuredAs x (length (w .bytes))) e

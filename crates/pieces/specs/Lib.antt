@@ -1,4 +1,4 @@
--- The pieces of a quoted string, and how the functions answer in one number.
+-- The pieces of a quoted string, and what the functions answer.
 pub mod Bytes
 pub mod Pieces
-pub mod Numbers
+pub mod Answers

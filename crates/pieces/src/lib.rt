@@ -1,138 +1,153 @@
 // Which bytes do the pieces of a quoted string give: what is an escape, and how many bytes come before the closing quote?
-// specs/Pieces.antt decides both. Each function answers in one number, which specs/Numbers.antt reads.
+// specs/Pieces.antt decides both, and specs/Answers.antt says what each answer means.
 ghost use mathlib.Core.Path.{_≡_};
 ghost use Prim.Native.Nat.{_<_, _≤_};
 ghost use lib.ListN.{drop};
 ghost use Rattle.pieces.specs.Bytes.{hexDigit, octalDigit};
 ghost use Rattle.pieces.specs.Pieces.{hexOf, thirdOf, octalOf, escapeOf, walk};
-ghost use Rattle.pieces.specs.Numbers.{pieceBy, Sized, countOf};
+ghost use Rattle.pieces.specs.Answers.{pieceMeaning, measureOf};
 
-// What is answered where the input is cut.
-pub const CUT: usize = 0;
+// The escape behind a backslash.
+pub enum Escaped {
+    // Its byte, and how many input bytes it takes, the backslash among them.
+    Byte { byte: u8, size: usize },
+    // The input ends inside it.
+    Cut,
+    // `\x` without two hex digits, or `+` and one, behind it.
+    Bad,
+}
 
-// What is answered where an escape is bad.
-pub const BAD: usize = 1;
-
-// A whole answer is this or above.
-pub const WHOLE: usize = 2;
-
-// An escape that takes two, three or four input bytes: its byte is added.
-const TWO: usize = 2 * 256;
-
-const THREE: usize = 3 * 256;
-
-const FOUR: usize = 4 * 256;
+// How many bytes the pieces of a quoted string give.
+pub enum Measured {
+    // So many, up to the closing quote.
+    Closed { count: usize },
+    // The input ends before the closing quote.
+    Cut,
+    // An escape before it is bad.
+    Bad,
+}
 
 // A hex digit as a number, 16 for any other byte.
-fn hex_digit(b: u8) -> usize
+fn hex_digit(b: u8) -> u8
     ensures { λ r. ⌜ (r ≡ hexDigit b) × (r ≤ 16) ⌝ }
 {
     if b < b'0' {
         return 16;
     }
     if b <= b'9' {
-        return (b - b'0') as usize;
+        return b - b'0';
     }
     if b < b'A' {
         return 16;
     }
     if b <= b'F' {
-        return (b - b'A' + 10) as usize;
+        return b - b'A' + 10;
     }
     if b < b'a' {
         return 16;
     }
     if b <= b'f' {
-        return (b - b'a' + 10) as usize;
+        return b - b'a' + 10;
     }
     16
 }
 
 // An octal digit as a number, 8 for any other byte.
-fn octal_digit(b: u8) -> usize
+fn octal_digit(b: u8) -> u8
     ensures { λ r. ⌜ (r ≡ octalDigit b) × (r ≤ 8) ⌝ }
 {
     if b < b'0' {
         return 8;
     }
     if b <= b'7' {
-        return (b - b'0') as usize;
+        return b - b'0';
     }
     8
 }
 
 // The escape `\x`, whose `x` is the first byte of `t`.
-fn hex(t: &[u8]) -> usize
-    ensures { λ r. ⌜ (pieceBy r ≡ hexOf (drop 1 (now (t .entry)))) × Sized r ⌝ }
+fn hex(t: &[u8]) -> Escaped
+    ensures { λ r. ⌜ pieceMeaning r ≡ hexOf (drop 1 (now (t .entry))) ⌝ }
 {
     if t.len() < 3 {
-        return CUT;
+        return Escaped::Cut;
     }
     let a = t[1];
     let low = hex_digit(t[2]);
     if 16 <= low {
-        return BAD;
+        return Escaped::Bad;
     }
     let high = hex_digit(a);
     if high < 16 {
-        return FOUR + (high * 16 + low);
+        let byte = high * 16 + low;
+        return Escaped::Byte { byte, size: 4 };
     }
     if a == b'+' {
-        return FOUR + low;
+        return Escaped::Byte { byte: low, size: 4 };
     }
-    BAD
+    Escaped::Bad
 }
 
 // The octal escape of two digits or three: the second is `t[1]`, and the two have the value `w`.
-fn third(t: &[u8], w: usize) -> usize
+fn third(t: &[u8], w: u8) -> Escaped
     requires { ⌜ w < 64 ⌝ }
-    ensures { λ r. ⌜ (pieceBy r ≡ thirdOf w (drop 2 (now (t .entry)))) × Sized r ⌝ }
+    ensures { λ r. ⌜ pieceMeaning r ≡ thirdOf w (drop 2 (now (t .entry))) ⌝ }
 {
     if t.len() < 3 {
-        return THREE + w;
+        return Escaped::Byte { byte: w, size: 3 };
     }
     let z = octal_digit(t[2]);
     if 8 <= z {
-        return THREE + w;
+        return Escaped::Byte { byte: w, size: 3 };
     }
-    let x = w * 8 + z;
+    let x = w as usize * 8 + z as usize;
     if x <= 255 {
-        return FOUR + x;
+        let byte = x as u8;
+        return Escaped::Byte { byte, size: 4 };
     }
-    THREE + w
+    Escaped::Byte { byte: w, size: 3 }
 }
 
 // The octal escape whose first digit is the first byte of `t`, and has the value `v`.
-fn octal(t: &[u8], v: usize) -> usize
+fn octal(t: &[u8], v: u8) -> Escaped
     requires { ⌜ v < 8 ⌝ }
-    ensures { λ r. ⌜ (pieceBy r ≡ octalOf v (drop 1 (now (t .entry)))) × Sized r ⌝ }
+    ensures { λ r. ⌜ pieceMeaning r ≡ octalOf v (drop 1 (now (t .entry))) ⌝ }
 {
     if t.len() < 2 {
-        return TWO + v;
+        return Escaped::Byte { byte: v, size: 2 };
     }
     let y = octal_digit(t[1]);
     if 8 <= y {
-        return TWO + v;
+        return Escaped::Byte { byte: v, size: 2 };
     }
     third(t, v * 8 + y)
 }
 
-// The escape whose backslash stands before `t`: 256 times the input bytes that it takes, and its byte; or CUT or BAD.
-pub fn escape(t: &[u8]) -> usize
-    ensures { λ r. ⌜ (pieceBy r ≡ escapeOf (now (t .entry))) × Sized r ⌝ }
+// The escape whose backslash stands before `t`.
+pub fn escape(t: &[u8]) -> Escaped
+    ensures { λ r. ⌜ pieceMeaning r ≡ escapeOf (now (t .entry)) ⌝ }
 {
     if t.len() == 0 {
-        return CUT;
+        return Escaped::Cut;
     }
     let c = t[0];
     if c == b'n' {
-        return TWO + 0x0a;
+        return Escaped::Byte {
+            byte: 0x0a,
+            size: 2,
+        };
     }
     if c == b'r' {
-        return TWO + 0x0d;
+        return Escaped::Byte {
+            byte: 0x0d,
+            size: 2,
+        };
     }
     if c == b't' {
-        return TWO + 0x09;
+        return Escaped::Byte {
+            byte: 0x09,
+            size: 2,
+        };
     }
     if c == b'x' {
         return hex(t);
@@ -141,32 +156,34 @@ pub fn escape(t: &[u8]) -> usize
     if v < 8 {
         return octal(t, v);
     }
-    TWO + c as usize
+    Escaped::Byte { byte: c, size: 2 }
 }
 
-// How many bytes the pieces from `from` on give, and WHOLE; or CUT or BAD.
-pub fn measure(input: &[u8], from: usize) -> usize
-    ensures { λ r. ⌜ r ≡ countOf 0 (walk 0 (drop from (now (input .entry)))) ⌝ }
+// How many bytes the pieces from `from` on give.
+pub fn measure(input: &[u8], from: usize) -> Measured
+    ensures { λ r. ⌜ r ≡ measureOf (walk 0 (drop from (now (input .entry)))) ⌝ }
 {
     let mut p = from;
     let mut n: usize = 0;
     while p < input.len() {
         let b = input[p];
         if b == b'"' {
-            return n + WHOLE;
+            return Measured::Closed { count: n };
         }
         if b == b'\\' {
             let t = p + 1;
-            let e = escape(&input[t..]);
-            if e < WHOLE {
-                return e;
+            match escape(&input[t..]) {
+                Escaped::Byte { byte: _, size } => {
+                    p += size;
+                    n += 1;
+                }
+                Escaped::Cut => return Measured::Cut,
+                Escaped::Bad => return Measured::Bad,
             }
-            p += e / 256;
-            n += 1;
         } else {
             p += 1;
             n += 1;
         }
     }
-    CUT
+    Measured::Cut
 }

@@ -2,7 +2,7 @@
 use mathlib.Core.Path.{_≡_, refl, sym, ap, _∙_}
 use mathlib.Core.Bool.{Bool, true, false}
 use mathlib.Core.List.{List, [], _∷_, _++_}
-use Prim.Native.Nat.{ℕ, zero, suc, _+_, _-_, _≤_, _<_}
+use Prim.Native.Nat.{ℕ, suc, _+_, _-_, _≤_, _<_}
 use native.Mathlib.Omega.{arith}
 use borrow.Author.Tests.{lt-ltb, le-ltb, lt-leb, le-leb, eqb-true}
 use lib.Dec.{eqb, ltb}
@@ -14,7 +14,8 @@ use Rattle.token.specs.Ends.{endOf}
 use Rattle.token.specs.declared.Token.{Token}
 use Rattle.token.specs.declared.Token.the-variants.{String, Escaped}
 use Rattle.pieces.specs.Pieces.{End, closed, badHex, cut, Walk, walk}
-use Rattle.pieces.specs.Numbers.{countOf}
+use Rattle.pieces.specs.Answers.{measureOf}
+use Rattle.pieces.specs.declared.Measured.the-variants.{Closed, Cut, Bad}
 use Rattle.search.proofs.Laws.{drop-more}
 use Rattle.pieces.proofs.Walks.{walk-quote, told-bad, told-cut, told-closed}
 use Rattle.quoted.specs.Quoted.{Closing, closesAt, unclosed, closing, hidden, stands, judged, closedAs, quotedAt}
@@ -124,18 +125,12 @@ module _ (s : List ℕ) (at : ℕ) where
       way-judged : (x : End) → walk 0 (drop p s) .end ≡ x → quotedAt s at ≡ judged x at (Escaped (at + 1) (q - (at + 1))) (q + 1)
       way-judged x f = within (o .opened) ∙ ap (closedAs s at) (same-closing p (o .first) ∙ closes) ∙ rw (same-end p (o .first), f, escaped)
 
-      -- m is what measuring from there gives
-      module _ (m : ℕ) (e : m ≡ countOf 0 (walk 0 (drop p s))) where
-        pub way-bad : m ≡ 1 → quotedAt s at ≡ refused badHexEscape (at ∷ [])
-        way-bad z = way-judged badHex (told-bad 0 _ (sym z ∙ e))
+      -- by what measuring from there gives
+      pub way-bad : Bad ≡ measureOf (walk 0 (drop p s)) → quotedAt s at ≡ refused badHexEscape (at ∷ [])
+      way-bad e = way-judged badHex (told-bad _ e)
 
-        pub way-cut : m ≡ 0 → quotedAt s at ≡ more
-        way-cut z = way-judged cut (told-cut 0 _ (sym z ∙ e))
+      pub way-cut : Cut ≡ measureOf (walk 0 (drop p s)) → quotedAt s at ≡ more
+      way-cut e = way-judged cut (told-cut _ e)
 
-        pub way-escaped : (m ≡ 1 → ⊥) → (m ≡ 0 → ⊥) → quotedAt s at ≡ gives (spot (Escaped (at + 1) (q - (at + 1))) at (q + 1))
-        way-escaped y z = way-judged closed (told-closed 0 _ m e (whole m y z))
-          where
-            whole : (k : ℕ) → (k ≡ 1 → ⊥) → (k ≡ 0 → ⊥) → 2 ≤ k
-            whole zero a b = absurd (b refl)
-            whole (suc zero) a b = absurd (a refl)
-            whole (suc (suc k)) a b = omega arith
+      pub way-escaped : (n : ℕ) → Closed n ≡ measureOf (walk 0 (drop p s)) → quotedAt s at ≡ gives (spot (Escaped (at + 1) (q - (at + 1))) at (q + 1))
+      way-escaped n e = way-judged closed (told-closed _ n e .0)

@@ -3,7 +3,7 @@
 use mathlib.Core.Path.{_≡_, refl, sym, ap, ap₂, _∙_}
 use mathlib.Core.Bool.{Bool, true, false, _||_}
 use mathlib.Core.List.{List, [], _∷_}
-use Prim.Native.Nat.{ℕ, zero, suc, _+_, _*_, _-_, _/_, _%_, _≤_, _<_}
+use Prim.Native.Nat.{ℕ, _+_, _*_, _-_, _≤_, _<_}
 use native.Mathlib.Omega.{arith}
 use borrow.Author.Tests.{eqb-true, eqb-false, ne-eqb}
 use lib.Dec.{eqb, leb, ltb}
@@ -16,11 +16,10 @@ use Rattle.search.proofs.Laws.{first-found, same-at-first}
 use Rattle.pieces.specs.Bytes.{hexDigit, octalDigit, isHex, isOctal}
 use Rattle.pieces.specs.Pieces.{End, closed, badHex, cut, Piece, byte, ends, hexOf, thirdOf, octalOf, escapeOf, Walk, walk}
 use Rattle.quoted.specs.Quoted.{Closing, closesAt, unclosed, closing, hidden, closedAs, quotedAt}
-use Rattle.pieces.specs.Numbers.{pieceBy, countBy, countOf}
 use Rattle.quoted.specs.Inside.{wholeBy, wholeFrom}
-use Rattle.pieces.proofs.Digits.{by-whole}
+use Rattle.pieces.proofs.Digits.{escape-size}
 use Rattle.search.proofs.Laws.{drop-more}
-use Rattle.pieces.proofs.Walks.{walk-out, walk-quote, walk-plain, walk-byte, walk-failed}
+use Rattle.pieces.proofs.Walks.{walk-out, walk-quote, walk-plain, walk-byte, walk-ends}
 use Rattle.quoted.proofs.Places.{close-quote, close-plain}
 use Rattle.quoted.proofs.Answers.{within}
 
@@ -115,15 +114,6 @@ module _ (p : ℕ) where
       same = omega arith
 
 -- ---- the end from a place, by what stands there
-failed : (w : Walk) (c : Closing) → countOf 0 w < 2 → 0 ≡ wholeBy (w .end) c
-unfolding countOf
-failed w c h = go (w .end) h
-  where
-    go : (x : End) → countBy x (0 + length (w .bytes)) < 2 → 0 ≡ wholeBy x c
-    go closed h = absurd (omega arith)
-    go badHex h = refl
-    go cut h = refl
-
 module _ (s : List ℕ) (p : ℕ) where
   pub whole-out : length s ≤ p → 0 ≡ wholeFrom s p
   unfolding wholeFrom
@@ -142,25 +132,26 @@ module _ (s : List ℕ) (p : ℕ) where
     unfolding closing
     opened e = rw (drop-more s p h, e)
 
-    module _ (b : getD s p 0 ≡ 92) (r : ℕ) (e : pieceBy r ≡ escapeOf (take (length s - (p + 1)) (drop (p + 1) s))) where
-      pub whole-failed : r < 2 → 0 ≡ wholeFrom s p
+    -- an escape that is an end, and one that is whole
+    module _ (b : getD s p 0 ≡ 92) where
+      pub whole-ends : (x : End) → ends x ≡ escapeOf (take (length s - (p + 1)) (drop (p + 1) s)) → wholeBy x (closing p (drop p s)) ≡ wholeFrom s p
       unfolding wholeFrom
-      whole-failed l = failed (walk 0 (drop p s)) (closing p (drop p s)) (omega (arith, walk-failed s p h b r e l 0 .1))
+      whole-ends x e = rw (walk-ends s p h b x e)
 
-      pub whole-byte : 512 ≤ r → wholeFrom s (p + r / 256) ≡ wholeFrom s p
+      pub whole-byte : (v k : ℕ) → byte v k ≡ escapeOf (take (length s - (p + 1)) (drop (p + 1) s)) → wholeFrom s (p + k) ≡ wholeFrom s p
       unfolding wholeFrom
-      whole-byte g = sym (ap₂ wholeBy (ap (λ (w : Walk). w .end) (walk-byte s p h b r e g)) close-byte)
+      whole-byte v k e = sym (ap₂ wholeBy (ap (λ (w : Walk). w .end) (walk-byte s p h b v k e)) close-byte)
         where
           rest : take (length s - (p + 1)) (drop (p + 1) s) ≡ drop (p + 1) s
           rest = take-all (length s - (p + 1)) (drop (p + 1) s) (rw length-drop (omega arith))
 
-          same : p + 1 + (r / 256 - 1) ≡ p + r / 256
-          same = omega arith
+          same : p + 1 + (k - 1) ≡ p + k
+          same = omega (arith, escape-size _ v k e .0)
 
-          close-byte : closing p (drop p s) ≡ closing (p + r / 256) (drop (p + r / 256) s)
+          close-byte : closing p (drop p s) ≡ closing (p + k) (drop (p + k) s)
           close-byte =
-              opened b ∙ escape-keeps p (drop (p + 1) s) (r % 256) (r / 256) (sym (ap escapeOf rest) ∙ sym e ∙ by-whole r (omega arith))
-              ∙ ap (closing (p + r / 256)) (drop-drop (r / 256 - 1) (p + 1) s ∙ ap (λ (n : ℕ). drop n s) same)
+              opened b ∙ escape-keeps p (drop (p + 1) s) v k (sym (e ∙ ap escapeOf rest))
+              ∙ ap (closing (p + k)) (drop-drop (k - 1) (p + 1) s ∙ ap (λ (n : ℕ). drop n s) same)
 
 -- the bytes before the next quote or backslash change nothing
 pub whole-jump : (s : List ℕ) (p : ℕ) → wholeFrom s p ≡ wholeFrom s (firstFrom isQuote s p)

@@ -8,6 +8,8 @@ ghost use Rattle.token.specs.Meaning.{readMeaning};
 ghost use Rattle.token.specs.Ends.{endOf};
 ghost use Rattle.quoted.specs.Quoted.{closing, quotedAt};
 ghost use Rattle.quoted.specs.Inside.{plain, closingBy, Opens, wholeFrom};
+use pieces::Escaped;
+use pieces::Measured;
 use refusal::Refusal;
 use token::Read;
 use token::Token;
@@ -52,23 +54,21 @@ fn escaped_token(input: &[u8], at: usize, p: usize) -> Read
     if q == 0 {
         return Read::Incomplete;
     }
-    let m = pieces::measure(input, p);
-    if m == pieces::BAD {
-        return Read::Refused {
+    match pieces::measure(input, p) {
+        Measured::Closed { count: _ } => {
+            let len = q - start;
+            let token = Token::Escaped { start, len };
+            let next = q + 1;
+            Read::Token {
+                token,
+                first: at,
+                next,
+            }
+        }
+        Measured::Cut => Read::Incomplete,
+        Measured::Bad => Read::Refused {
             refusal: Refusal::BadHexEscape { place: at },
-        };
-    }
-    if m == pieces::CUT {
-        return Read::Incomplete;
-    }
-    let token = Token::Escaped {
-        start,
-        len: q - start,
-    };
-    Read::Token {
-        token,
-        first: at,
-        next: q + 1,
+        },
     }
 }
 
@@ -111,11 +111,11 @@ fn whole_end(input: &[u8], from: usize) -> usize
             return p + 1;
         }
         let t = p + 1;
-        let e = pieces::escape(&input[t..]);
-        if e <= pieces::BAD {
-            return 0;
+        match pieces::escape(&input[t..]) {
+            Escaped::Byte { byte: _, size } => p = search::find_quote(input, p + size),
+            Escaped::Cut => return 0,
+            Escaped::Bad => return 0,
         }
-        p = search::find_quote(input, p + e / 256);
     }
     0
 }

@@ -12,35 +12,29 @@ use Rattle.token.specs.Strings.{bytesAnswer, bytesWritten}
 use Rattle.token.specs.declared.Token.{Token}
 use Rattle.token.specs.declared.Extent.the-variants.{Plain}
 use Rattle.pieces.specs.Pieces.{closed, walk}
-use Rattle.pieces.specs.Numbers.{countOf}
-use Rattle.pieces.proofs.Walks.{told-length}
+use Rattle.pieces.specs.Answers.{measureOf}
+use Rattle.pieces.specs.declared.Measured.the-variants.{Closed}
+use Rattle.pieces.proofs.Walks.{told-closed}
 use Rattle.quoted.specs.Quoted.{quotedAt, quotedBytes, withBytes, quotedStringAt}
 use Rattle.quoted.proofs.Laws.{quoted-ended, string-bytes}
 use Rattle.unescape.specs.Overlay.{overlay, bytesFrom}
 use Rattle.unescape.proofs.Writes.{overlay-fits}
 
--- pieces that are whole: m is what measuring them gives
-module _ (s : List ℕ) (from next m : ℕ) (e : m ≡ countOf 0 (walk 0 (drop from s))) (c : walk 0 (drop from s) .end ≡ closed) where
-  size : m ≡ length (walk 0 (drop from s) .bytes) + 2
-  size = e ∙ told-length (walk 0 (drop from s)) c
+-- pieces that are whole: n is how many bytes they give
+module _ (s : List ℕ) (from next n : ℕ) (e : Closed n ≡ measureOf (walk 0 (drop from s))) (out : List ℕ) where
+  count-is : n ≡ length (walk 0 (drop from s) .bytes)
+  count-is = told-closed _ n e .1
 
-  pub two-counted : 2 ≤ m
-  two-counted = omega (arith, size)
+  pub undo-short : length out < n
+      → (refused shortOutput [] ≡ bytesAnswer (bytesFrom s from next) (length out)) × (out ≡ bytesWritten (bytesFrom s from next) out)
+  unfolding bytesAnswer bytesWritten
+  undo-short h = (rw (← count-is, lt-ltb _ _ h), rw (← count-is, lt-ltb _ _ h))
 
-  count-is : m - 2 ≡ length (walk 0 (drop from s) .bytes)
-  count-is = omega (arith, size)
-
-  module _ (out : List ℕ) where
-    pub undo-short : length out < m - 2
-        → (refused shortOutput [] ≡ bytesAnswer (bytesFrom s from next) (length out)) × (out ≡ bytesWritten (bytesFrom s from next) out)
-    unfolding bytesAnswer bytesWritten
-    undo-short h = (rw (← count-is, lt-ltb _ _ h), rw (← count-is, lt-ltb _ _ h))
-
-    pub undone : m - 2 ≤ length out → (o : List ℕ) → o ≡ overlay (walk 0 (drop from s) .bytes) out
-        → (gives (got (m - 2) next) ≡ bytesAnswer (bytesFrom s from next) (length out)) × (o ≡ bytesWritten (bytesFrom s from next) out)
-    unfolding bytesAnswer bytesWritten
-    undone h o f =
-        (rw (← count-is, le-ltb _ _ h), rw (← count-is, le-ltb _ _ h) (f ∙ overlay-fits (walk 0 (drop from s) .bytes) out (omega (arith, count-is)) ∙ rw (← count-is)))
+  pub undone : n ≤ length out → (o : List ℕ) → o ≡ overlay (walk 0 (drop from s) .bytes) out
+      → (gives (got n next) ≡ bytesAnswer (bytesFrom s from next) (length out)) × (o ≡ bytesWritten (bytesFrom s from next) out)
+  unfolding bytesAnswer bytesWritten
+  undone h o f =
+      (rw (← count-is, le-ltb _ _ h), rw (← count-is, le-ltb _ _ h) (f ∙ overlay-fits (walk 0 (drop from s) .bytes) out (omega (arith, count-is)) ∙ rw (← count-is)))
 
 -- what is answered and written by a string that is known
 pub of-string : (x y : Paper (Got (List ℕ))) (r : Paper (Got ℕ)) (out o : List ℕ) → x ≡ y → (r ≡ bytesAnswer y (length out)) × (o ≡ bytesWritten y out)

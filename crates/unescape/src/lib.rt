@@ -6,6 +6,8 @@ ghost use Rattle.token.specs.Strings.{unescapedMeaning, bytesAnswer, bytesWritt
 ghost use Rattle.pieces.specs.Pieces.{End, closed, walk};
 ghost use Rattle.quoted.specs.Quoted.{quotedStringAt};
 ghost use Rattle.unescape.specs.Overlay.{overlay, bytesFrom};
+use pieces::Escaped;
+use pieces::Measured;
 use token::Extent;
 use token::Read;
 use token::Unescaped;
@@ -26,13 +28,15 @@ fn write(input: &[u8], from: usize, out: &mut [u8])
         }
         if b == b'\\' {
             let t = p + 1;
-            let e = pieces::escape(&input[t..]);
-            if e < pieces::WHOLE {
-                return;
+            match pieces::escape(&input[t..]) {
+                Escaped::Byte { byte, size } => {
+                    out[n] = byte;
+                    p += size;
+                    n += 1;
+                }
+                Escaped::Cut => return,
+                Escaped::Bad => return,
             }
-            out[n] = (e % 256) as u8;
-            p += e / 256;
-            n += 1;
         } else {
             out[n] = b;
             p += 1;
@@ -48,7 +52,10 @@ fn undo(input: &[u8], from: usize, next: usize, out: &mut [u8]) -> Unescaped
     ensures answer { λ r. ⌜ unescapedMeaning r ≡ bytesAnswer (bytesFrom (now (input .entry)) from next) (length (now (out .entry))) ⌝ }
     ensures written { λ r. ⌜ now (out .exit) ≡ bytesWritten (bytesFrom (now (input .entry)) from next) (now (out .entry)) ⌝ }
 {
-    let count = pieces::measure(input, from) - pieces::WHOLE;
+    // The pieces end at a closing quote, so no other answer comes.
+    let Measured::Closed { count } = pieces::measure(input, from) else {
+        return Unescaped::Incomplete;
+    };
     if out.len() < count {
         return Unescaped::Short;
     }

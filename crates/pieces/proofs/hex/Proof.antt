@@ -2,12 +2,12 @@
 use native.Mathlib.Omega.{arith}
 use denote.Ref.{now}
 use borrow.Author.Needs.{needs}
-use Rattle.pieces.proofs.Digits.{fails-cut, fails-bad, takes-hex, takes-low, hex-cut, hex-bad-low, hex-two, hex-plus, hex-bad-high}
+use Rattle.pieces.proofs.Digits.{hex-cut, hex-bad-low, hex-two, hex-plus, hex-bad-high}
 use Rattle.pieces.proofs.hex.Statement.{statement}
 use Rattle.pieces.proofs.hex.Tie as tie
 
 returns : tie.Need-returns
-returns c = fails-cut _ (hex-cut (now (c .before .before .args .t)) (c .if1 .taken))
+returns c = hex-cut (now (c .before .before .args .t)) (c .if1 .taken)
 
 shared-slice-read-a : tie.Need-shared-slice-read-a
 shared-slice-read-a c = omega arith
@@ -21,43 +21,34 @@ hex-digit-requires c κs = search needs
 returns-2 : tie.Need-returns-2
 returns-2 c =
     let d = c .before in
-    fails-bad _ (hex-bad-low (now (d .before .before .before .before .before .args .t)) (d .before .before .before .if1 .left) (d .hex-digit .result) (d .hex-digit .ensures .0) (c .if2 .taken))
+    hex-bad-low (now (d .before .before .before .before .before .args .t)) (d .before .before .before .if1 .left) (d .hex-digit .result) (d .hex-digit .ensures .0) (c .if2 .taken)
 
 hex-digit-requires-2 : tie.Need-hex-digit-requires-2
 hex-digit-requires-2 c κs = search needs
 
-mul-result : tie.Need-mul-result
-mul-result c = search needs
+mul-byte : tie.Need-mul-byte
+mul-byte c = search needs
 
-add-result : tie.Need-add-result
-add-result c = search needs
-
-add-result-2 : tie.Need-add-result-2
-add-result-2 c = search needs
+add-byte : tie.Need-add-byte
+add-byte c = search needs
 
 returns-3 : tie.Need-returns-3
 returns-3 c =
     let g = c .before in
     let d = g .before .before in
-    takes-hex _ _ _ (c .if3 .taken) (g .before .if2 .left)
-    (hex-two (now (d .before .before .before .before .before .args .t)) (d .before .before .before .if1 .left) (d .hex-digit .result) (d .hex-digit .ensures .0) (g .before .if2 .left) (g .hex-digit2 .result) (g .hex-digit2 .ensures .0) (c .if3 .taken))
-
-add-result-3 : tie.Need-add-result-3
-add-result-3 c = search needs
+    hex-two (now (d .before .before .before .before .before .args .t)) (d .before .before .before .if1 .left) (d .hex-digit .result) (d .hex-digit .ensures .0) (g .before .if2 .left) (g .hex-digit2 .result) (g .hex-digit2 .ensures .0) (c .if3 .taken)
 
 returns-4 : tie.Need-returns-4
 returns-4 c =
     let g = c .before .before in
     let d = g .before .before in
-    takes-low _ _ (g .before .if2 .left)
-    (hex-plus (now (d .before .before .before .before .before .args .t)) (d .before .before .before .if1 .left) (d .hex-digit .result) (d .hex-digit .ensures .0) (g .before .if2 .left) (g .hex-digit2 .result) (g .hex-digit2 .ensures .0) (c .before .if3 .left) (c .if4 .taken))
+    hex-plus (now (d .before .before .before .before .before .args .t)) (d .before .before .before .if1 .left) (d .hex-digit .result) (d .hex-digit .ensures .0) (g .before .if2 .left) (g .hex-digit2 .result) (g .hex-digit2 .ensures .0) (c .before .if3 .left) (c .if4 .taken)
 
 returns-5 : tie.Need-returns-5
 returns-5 c =
     let g = c .before .before in
     let d = g .before .before in
-    fails-bad _
-    (hex-bad-high (now (d .before .before .before .before .before .args .t)) (d .before .before .before .if1 .left) (d .hex-digit .result) (d .hex-digit .ensures .0) (g .before .if2 .left) (g .hex-digit2 .result) (g .hex-digit2 .ensures .0) (c .before .if3 .left) (c .if4 .left))
+    hex-bad-high (now (d .before .before .before .before .before .args .t)) (d .before .before .before .if1 .left) (d .hex-digit .result) (d .hex-digit .ensures .0) (g .before .if2 .left) (g .hex-digit2 .result) (g .hex-digit2 .ensures .0) (c .before .if3 .left) (c .if4 .left)
 
 pub hex-spec : {M : Type 1} → statement M
 hex-spec =
@@ -69,10 +60,8 @@ hex-spec =
     hex-digit-requires
     returns-2
     hex-digit-requires-2
-    mul-result
-    add-result
-    add-result-2
+    mul-byte
+    add-byte
     returns-3
-    add-result-3
     returns-4
     returns-5)

@@ -8,9 +8,6 @@ use Rattle.pieces.proofs.hex_digit.Tie as tie
 returns : tie.Need-returns
 returns c = (hex-low _ (omega arith), omega arith)
 
-cast-result : tie.Need-cast-result
-cast-result c = search needs
-
 returns-2 : tie.Need-returns-2
 returns-2 c = (hex-number _ (omega arith) (omega arith), omega arith)
 
@@ -20,9 +17,6 @@ returns-3 c = (hex-gap _ (omega arith) (omega arith), omega arith)
 add-result : tie.Need-add-result
 add-result c = search needs
 
-cast-result-2 : tie.Need-cast-result-2
-cast-result-2 c = search needs
-
 returns-4 : tie.Need-returns-4
 returns-4 c = (hex-upper _ (omega arith) (omega arith), omega arith)
 
@@ -31,9 +25,6 @@ returns-5 c = (hex-middle _ (omega arith) (omega arith), omega arith)
 
 add-result-2 : tie.Need-add-result-2
 add-result-2 c = search needs
-
-cast-result-3 : tie.Need-cast-result-3
-cast-result-3 c = search needs
 
 returns-6 : tie.Need-returns-6
 returns-6 c = (hex-lower _ (omega arith) (omega arith), omega arith)
@@ -46,14 +37,11 @@ hex-digit-spec =
     tie.close
     (tie.spec
     returns
-    cast-result
     returns-2
     returns-3
     add-result
-    cast-result-2
     returns-4
     returns-5
     add-result-2
-    cast-result-3
     returns-6
     returns-7)

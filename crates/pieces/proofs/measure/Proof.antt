@@ -1,32 +1,33 @@
 -- `measure` meets its contract: n bytes and what the pieces from each place on give come to what those from the start give.
-use mathlib.Core.Path.{_≡_, refl, sym, ap, _∙_}
-use Prim.Native.Nat.{_-_, _%_, _≤_}
+use mathlib.Core.Path.{_≡_, sym, ap, _∙_}
+use Prim.Native.Nat.{_-_, _≤_}
 use native.Mathlib.Omega.{arith}
 use borrow.Author.Needs.{needs}
 use lib.ListN.{length, drop}
-use Rattle.pieces.specs.Pieces.{walk}
-use Rattle.pieces.specs.Numbers.{countOf}
-use Rattle.pieces.proofs.Walks.{walk-out, walk-quote, walk-plain, walk-byte, walk-failed, count-more, count-closed, count-cut}
+use Rattle.pieces.specs.Pieces.{closed, badHex, cut, walk}
+use Rattle.pieces.specs.Answers.{pieceMeaning, measureOf}
+use Rattle.pieces.proofs.Digits.{escape-size}
+use Rattle.pieces.proofs.Walks.{walk-out, walk-quote, walk-plain, walk-byte, walk-ends, after, after-none, after-more, after-ends}
 use Rattle.pieces.proofs.measure.Statement.{statement}
 use Rattle.pieces.proofs.measure.Tie as tie
 
 abbrev Inv-loop : tie.InvT-loop
-Inv-loop input from p₀ n₀ p n = (n ≤ p) × (countOf n (walk 0 (drop p input)) ≡ countOf 0 (walk 0 (drop from input)))
+Inv-loop input from p₀ n₀ p n = (n ≤ p) × (after n (walk 0 (drop p input)) ≡ measureOf (walk 0 (drop from input)))
 
 abbrev μ-loop : tie.MeasureT-loop
 μ-loop input from p₀ n₀ p n = length input - p
 
 loop-holds : tie.Need-loop-holds Inv-loop μ-loop
-loop-holds c = (search needs, refl)
+loop-holds c = (search needs, after-none _)
 
 shared-slice-read-b : tie.Need-shared-slice-read-b Inv-loop μ-loop
 shared-slice-read-b c = search needs
 
-add-result : tie.Need-add-result Inv-loop μ-loop
-add-result c = search needs
-
 returns : tie.Need-returns Inv-loop μ-loop
-returns c = count-closed (c .before .before .before .loop .n) ∙ ap (countOf (c .before .before .before .loop .n)) (sym (walk-quote (c .before .before .before .before .before .args .input .now) (c .before .before .before .loop .p) (omega arith) (c .if1 .taken))) ∙ c .before .before .before .loop .inv .1
+returns c =
+    let at = c .before .before .before .loop in
+    let s = c .before .before .before .before .before .args .input .now in
+    after-ends (at .n) closed ∙ ap (after (at .n)) (sym (walk-quote s (at .p) (omega arith) (c .if1 .taken))) ∙ at .inv .1
 
 add-t : tie.Need-add-t Inv-loop μ-loop
 add-t c = search needs
@@ -43,20 +44,51 @@ part-escape-end c = search needs
 escape-requires : tie.Need-escape-requires Inv-loop μ-loop
 escape-requires c κs = search needs
 
-returns-2 : tie.Need-returns-2 Inv-loop μ-loop
-returns-2 c = walk-failed (c .before .before .before .before .before .before .before .before .before .args .input .now) (c .before .before .before .before .before .before .before .loop .p) (omega arith) (c .before .before .before .if2 .taken) (c .before .escape .result) (c .before .escape .ensures .0) (omega arith) (c .before .before .before .before .before .before .before .loop .n) .1 ∙ c .before .before .before .before .before .before .before .loop .inv .1
+enum-known-size : tie.Need-enum-known-size Inv-loop μ-loop
+enum-known-size c = search needs
 
 add-p : tie.Need-add-p Inv-loop μ-loop
-add-p c = omega (arith, (c .before .escape .ensures .1 .least (omega arith)))
+add-p c =
+    let z = escape-size _ _ _ (sym (ap pieceMeaning (c .before .size .given .1)) ∙ c .before .before .before .escape .ensures) in
+    omega (arith, z .0, z .1)
 
 add-n : tie.Need-add-n Inv-loop μ-loop
-add-n c = omega (arith, (c .before .escape .ensures .1 .least (omega arith)))
+add-n c = omega arith
 
 loop-less : tie.Need-loop-less Inv-loop μ-loop
-loop-less c = omega (arith, (c .before .escape .ensures .1 .least (omega arith)))
+loop-less c =
+    let z = escape-size _ _ _ (sym (ap pieceMeaning (c .before .size .given .1)) ∙ c .before .before .before .escape .ensures) in
+    omega (arith, z .0, z .1)
 
 loop-again : tie.Need-loop-again Inv-loop μ-loop
-loop-again c = (omega (arith, (c .before .escape .ensures .1 .least (omega arith))), count-more (c .before .before .before .before .before .before .before .loop .n) (c .before .escape .result % 256) _ ∙ ap (countOf (c .before .before .before .before .before .before .before .loop .n)) (sym (walk-byte (c .before .before .before .before .before .before .before .before .before .args .input .now) (c .before .before .before .before .before .before .before .loop .p) (omega arith) (c .before .before .before .if2 .taken) (c .before .escape .result) (c .before .escape .ensures .0) (c .before .escape .ensures .1 .least (omega arith)))) ∙ c .before .before .before .before .before .before .before .loop .inv .1)
+loop-again c =
+    let f = c .before .before .before .before .before in
+    let at = f .before .before .before .before .loop in
+    let s = f .before .before .before .before .before .before .args .input .now in
+    let e = sym (ap pieceMeaning (c .before .size .given .1)) ∙ c .before .before .before .escape .ensures in
+    (omega (arith, escape-size _ _ _ e .0), after-more (at .n) _ _ ∙ ap (after (at .n)) (sym (walk-byte s (at .p) (omega arith) (f .if2 .taken) _ _ e)) ∙ at .inv .1)
+
+enum-told : tie.Need-enum-told Inv-loop μ-loop
+enum-told c = search needs
+
+returns-2 : tie.Need-returns-2 Inv-loop μ-loop
+returns-2 c =
+    let f = c .before .before .before .before in
+    let at = f .before .before .before .before .loop in
+    let s = f .before .before .before .before .before .before .args .input .now in
+    let e = sym (ap pieceMeaning (c .enum-told .given .1)) ∙ c .before .before .escape .ensures in
+    after-ends (at .n) cut ∙ ap (after (at .n)) (sym (walk-ends s (at .p) (omega arith) (f .if2 .taken) cut e)) ∙ at .inv .1
+
+enum-told-2 : tie.Need-enum-told-2 Inv-loop μ-loop
+enum-told-2 c = search needs
+
+returns-3 : tie.Need-returns-3 Inv-loop μ-loop
+returns-3 c =
+    let f = c .before .before .before .before in
+    let at = f .before .before .before .before .loop in
+    let s = f .before .before .before .before .before .before .args .input .now in
+    let e = sym (ap pieceMeaning (c .enum-told2 .given .1)) ∙ c .before .before .escape .ensures in
+    after-ends (at .n) badHex ∙ ap (after (at .n)) (sym (walk-ends s (at .p) (omega arith) (f .if2 .taken) badHex e)) ∙ at .inv .1
 
 add-p-2 : tie.Need-add-p-2 Inv-loop μ-loop
 add-p-2 c = search needs
@@ -68,10 +100,16 @@ loop-less-2 : tie.Need-loop-less-2 Inv-loop μ-loop
 loop-less-2 c = search needs
 
 loop-again-2 : tie.Need-loop-again-2 Inv-loop μ-loop
-loop-again-2 c = (search needs, count-more (c .before .before .before .before .loop .n) _ _ ∙ ap (countOf (c .before .before .before .before .loop .n)) (sym (walk-plain (c .before .before .before .before .before .before .args .input .now) (c .before .before .before .before .loop .p) (omega arith) (c .before .if1 .left) (c .if2 .left))) ∙ c .before .before .before .before .loop .inv .1)
+loop-again-2 c =
+    let at = c .before .before .before .before .loop in
+    let s = c .before .before .before .before .before .before .args .input .now in
+    (search needs, after-more (at .n) _ _ ∙ ap (after (at .n)) (sym (walk-plain s (at .p) (omega arith) (c .before .if1 .left) (c .if2 .left))) ∙ at .inv .1)
 
-returns-3 : tie.Need-returns-3 Inv-loop μ-loop
-returns-3 c = count-cut (c .before .loop .n) ∙ ap (countOf (c .before .loop .n)) (sym (walk-out (c .before .before .before .args .input .now) (c .before .loop .p) (omega arith))) ∙ c .before .loop .inv .1
+returns-4 : tie.Need-returns-4 Inv-loop μ-loop
+returns-4 c =
+    let at = c .before .loop in
+    let s = c .before .before .before .args .input .now in
+    after-ends (at .n) cut ∙ ap (after (at .n)) (sym (walk-out s (at .p) (omega arith))) ∙ at .inv .1
 
 pub measure-spec : {M : Type 1} → statement M
 measure-spec =
@@ -81,20 +119,23 @@ measure-spec =
     μ-loop
     loop-holds
     shared-slice-read-b
-    add-result
     returns
     add-t
     sub-escape
     part-escape-start
     part-escape-end
     escape-requires
-    returns-2
+    enum-known-size
     add-p
     add-n
     loop-less
     loop-again
+    enum-told
+    returns-2
+    enum-told-2
+    returns-3
     add-p-2
     add-n-2
     loop-less-2
     loop-again-2
-    returns-3)
+    returns-4)

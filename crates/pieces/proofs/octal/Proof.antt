@@ -2,15 +2,12 @@
 use mathlib.Core.Path.{_∙_}
 use denote.Ref.{now}
 use borrow.Author.Needs.{needs}
-use Rattle.pieces.proofs.Digits.{takes-two, octal-alone, octal-one, octal-two}
+use Rattle.pieces.proofs.Digits.{octal-alone, octal-one, octal-two}
 use Rattle.pieces.proofs.octal.Statement.{statement}
 use Rattle.pieces.proofs.octal.Tie as tie
 
-add-result : tie.Need-add-result
-add-result c = search needs
-
 returns : tie.Need-returns
-returns c = takes-two _ _ (c .before .before .pre) (octal-alone (now (c .before .before .args .t)) (c .before .before .args .v) (c .if1 .taken))
+returns c = octal-alone (now (c .before .before .args .t)) (c .before .before .args .v) (c .if1 .taken)
 
 shared-slice-read-octal-digit : tie.Need-shared-slice-read-octal-digit
 shared-slice-read-octal-digit c = c .before .if1 .left
@@ -18,14 +15,11 @@ shared-slice-read-octal-digit c = c .before .if1 .left
 octal-digit-requires : tie.Need-octal-digit-requires
 octal-digit-requires c κs = search needs
 
-add-result-2 : tie.Need-add-result-2
-add-result-2 c = search needs
-
 returns-2 : tie.Need-returns-2
 returns-2 c =
     let d = c .before in
     let n = d .before .before in
-    takes-two _ _ (n .before .before .pre) (octal-one (now (n .before .before .args .t)) (n .before .before .args .v) (n .if1 .left) (d .octal-digit .result) (d .octal-digit .ensures .0) (c .if2 .taken))
+    octal-one (now (n .before .before .args .t)) (n .before .before .args .v) (n .if1 .left) (d .octal-digit .result) (d .octal-digit .ensures .0) (c .if2 .taken)
 
 mul-third : tie.Need-mul-third
 mul-third c = search needs
@@ -39,17 +33,15 @@ third-requires c κs = search needs
 returns-3 : tie.Need-returns-3
 returns-3 c =
     let d = c .before .before in
-    (c .third .ensures .0 ∙ octal-two (now (d .before .before .before .before .args .t)) (d .before .before .before .before .args .v) (d .before .before .if1 .left) (d .octal-digit .result) (d .octal-digit .ensures .0) (c .before .if2 .left), c .third .ensures .1)
+    c .third .ensures ∙ octal-two (now (d .before .before .before .before .args .t)) (d .before .before .before .before .args .v) (d .before .before .if1 .left) (d .octal-digit .result) (d .octal-digit .ensures .0) (c .before .if2 .left)
 
 pub octal-spec : {M : Type 1} → statement M
 octal-spec =
     tie.close
     (tie.spec
-    add-result
     returns
     shared-slice-read-octal-digit
     octal-digit-requires
-    add-result-2
     returns-2
     mul-third
     add-third

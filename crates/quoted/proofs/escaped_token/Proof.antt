@@ -1,5 +1,5 @@
 -- `escaped_token` meets its contract: one law for each way through the definition.
-use mathlib.Core.Path.{sym}
+use mathlib.Core.Path.{sym, _∙_}
 use denote.Ref.{now}
 use native.Mathlib.Omega.{arith}
 use borrow.Author.Needs.{needs}
@@ -22,40 +22,49 @@ returns c =
 measure-requires : tie.Need-measure-requires
 measure-requires c κs = search needs
 
-returns-2 : tie.Need-returns-2
-returns-2 c =
-    let m = c .before in
+enum-told : tie.Need-enum-told
+enum-told c = search needs
+
+sub-len : tie.Need-sub-len
+sub-len c =
+    let m = c .before .before in
     let f = m .before .before in
     let o = f .before .before in
-    sym (way-bad _ _ (o .args .p) (o .pre) (f .find-close .result) (f .find-close .ensures) (m .before .if1 .left) (m .measure .result) (m .measure .ensures) (c .if2 .taken))
+    omega (arith, close-bounds (now (o .args .input)) (o .args .at) (o .args .p) (o .pre) (f .find-close .result) (f .find-close .ensures) (m .before .if1 .left) .0)
+
+add-next : tie.Need-add-next
+add-next c =
+    let m = c .before .before in
+    let f = m .before .before in
+    let o = f .before .before in
+    omega (arith, close-bounds (now (o .args .input)) (o .args .at) (o .args .p) (o .pre) (f .find-close .result) (f .find-close .ensures) (m .before .if1 .left) .1)
+
+enum-told-2 : tie.Need-enum-told-2
+enum-told-2 c = search needs
+
+enum-told-3 : tie.Need-enum-told-3
+enum-told-3 c = search needs
+
+returns-2 : tie.Need-returns-2
+returns-2 c =
+    let m = c .before .before in
+    let f = m .before .before in
+    let o = f .before .before in
+    sym (way-escaped _ _ (o .args .p) (o .pre) (f .find-close .result) (f .find-close .ensures) (m .before .if1 .left) _ (sym (c .enum-told .given .1) ∙ m .measure .ensures))
 
 returns-3 : tie.Need-returns-3
 returns-3 c =
     let m = c .before .before in
     let f = m .before .before in
     let o = f .before .before in
-    sym (way-cut _ _ (o .args .p) (o .pre) (f .find-close .result) (f .find-close .ensures) (m .before .if1 .left) (m .measure .result) (m .measure .ensures) (c .if3 .taken))
-
-sub-t10 : tie.Need-sub-t10
-sub-t10 c =
-    let m = c .before .before in
-    let f = m .before .before in
-    let o = f .before .before in
-    omega (arith, close-bounds (now (o .args .input)) (o .args .at) (o .args .p) (o .pre) (f .find-close .result) (f .find-close .ensures) (m .before .if1 .left) .0)
-
-add-t10 : tie.Need-add-t10
-add-t10 c =
-    let m = c .before .before in
-    let f = m .before .before in
-    let o = f .before .before in
-    omega (arith, close-bounds (now (o .args .input)) (o .args .at) (o .args .p) (o .pre) (f .find-close .result) (f .find-close .ensures) (m .before .if1 .left) .1)
+    sym (way-cut _ _ (o .args .p) (o .pre) (f .find-close .result) (f .find-close .ensures) (m .before .if1 .left) (sym (c .enum-told2 .given .1) ∙ m .measure .ensures))
 
 returns-4 : tie.Need-returns-4
 returns-4 c =
     let m = c .before .before in
     let f = m .before .before in
     let o = f .before .before in
-    sym (way-escaped _ _ (o .args .p) (o .pre) (f .find-close .result) (f .find-close .ensures) (m .before .if1 .left) (m .measure .result) (m .measure .ensures) (c .before .if2 .left) (c .if3 .left))
+    sym (way-bad _ _ (o .args .p) (o .pre) (f .find-close .result) (f .find-close .ensures) (m .before .if1 .left) (sym (c .enum-told3 .given .1) ∙ m .measure .ensures))
 
 pub escaped-token-spec : {M : Type 1} → statement M
 escaped-token-spec =
@@ -65,8 +74,11 @@ escaped-token-spec =
     find-close-requires
     returns
     measure-requires
+    enum-told
+    sub-len
+    add-next
+    enum-told-2
+    enum-told-3
     returns-2
     returns-3
-    sub-t10
-    add-t10
     returns-4)

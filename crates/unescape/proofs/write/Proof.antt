@@ -5,9 +5,11 @@ use Prim.Native.Nat.{_-_, _≤_}
 use native.Mathlib.Omega.{arith}
 use borrow.Author.Needs.{needs}
 use lib.ListN.{length, drop, length-set}
-use Rattle.pieces.specs.Pieces.{Walk, walk}
+use Rattle.pieces.specs.Pieces.{badHex, cut, Walk, walk}
+use Rattle.pieces.specs.Answers.{pieceMeaning}
 use Rattle.unescape.specs.Overlay.{overlay}
-use Rattle.pieces.proofs.Walks.{walk-out, walk-quote, walk-plain, walk-byte, walk-failed}
+use Rattle.pieces.proofs.Digits.{escape-size}
+use Rattle.pieces.proofs.Walks.{walk-out, walk-quote, walk-plain, walk-byte, walk-ends}
 use Rattle.unescape.proofs.Writes.{written, written-start, written-full, written-end, written-more}
 use Rattle.unescape.proofs.write.Statement.{statement}
 use Rattle.unescape.proofs.write.Tie as tie
@@ -34,7 +36,10 @@ same-length-2 : tie.Need-same-length-2 Inv-loop μ-loop
 same-length-2 c = search needs
 
 returns-2 : tie.Need-returns-2 Inv-loop μ-loop
-returns-2 c = written-end (c .before .before .before .before .loop .n) _ _ (ap (λ (w : Walk). w .bytes) (walk-quote (c .before .before .before .before .before .before .before .args .input .now) (c .before .before .before .before .loop .p) (omega arith) (c .if2 .taken))) ∙ c .before .before .before .before .loop .inv .2
+returns-2 c =
+    let at = c .before .before .before .before .loop in
+    let s = c .before .before .before .before .before .before .before .args .input .now in
+    written-end (at .n) _ _ (ap (λ (w : Walk). w .bytes) (walk-quote s (at .p) (omega arith) (c .if2 .taken))) ∙ at .inv .2
 
 add-t : tie.Need-add-t Inv-loop μ-loop
 add-t c = search needs
@@ -51,29 +56,56 @@ part-escape-end c = search needs
 escape-requires : tie.Need-escape-requires Inv-loop μ-loop
 escape-requires c κs = search needs
 
-same-length-3 : tie.Need-same-length-3 Inv-loop μ-loop
-same-length-3 c = search needs
-
-returns-3 : tie.Need-returns-3 Inv-loop μ-loop
-returns-3 c = written-end (c .before .before .before .before .before .before .before .before .loop .n) _ _ (walk-failed (c .before .before .before .before .before .before .before .before .before .before .before .args .input .now) (c .before .before .before .before .before .before .before .before .loop .p) (omega arith) (c .before .before .before .if3 .taken) (c .before .escape .result) (c .before .escape .ensures .0) (omega arith) (c .before .before .before .before .before .before .before .before .loop .n) .0) ∙ c .before .before .before .before .before .before .before .before .loop .inv .2
-
-cast-out : tie.Need-cast-out Inv-loop μ-loop
-cast-out c = search needs
+enum-known-byte : tie.Need-enum-known-byte Inv-loop μ-loop
+enum-known-byte c = search needs
 
 slice-write-out : tie.Need-slice-write-out Inv-loop μ-loop
 slice-write-out c = search needs
 
 add-p : tie.Need-add-p Inv-loop μ-loop
-add-p c = omega (arith, (c .before .escape .ensures .1 .least (omega arith)))
+add-p c = omega (arith, escape-size _ _ _ (sym (ap pieceMeaning (c .before .byte .given .1)) ∙ c .before .before .before .escape .ensures) .1)
 
 add-n : tie.Need-add-n Inv-loop μ-loop
-add-n c = omega (arith, (c .before .escape .ensures .1 .least (omega arith)))
+add-n c = search needs
 
 loop-less : tie.Need-loop-less Inv-loop μ-loop
-loop-less c = omega (arith, (c .before .escape .ensures .1 .least (omega arith)))
+loop-less c = omega (arith, escape-size _ _ _ (sym (ap pieceMeaning (c .before .byte .given .1)) ∙ c .before .before .before .escape .ensures) .0)
 
 loop-again : tie.Need-loop-again Inv-loop μ-loop
-loop-again c = (omega (arith, (c .before .escape .ensures .1 .least (omega arith))), simp length-set (c .before .before .before .before .before .before .before .before .loop .inv .1), written-more (c .before .before .before .before .before .before .before .before .loop .n) (c .before .before .before .before .before .before .before .before .loop .out) _ _ (omega arith) ∙ ap (λ (w : Walk). written (c .before .before .before .before .before .before .before .before .loop .n) (c .before .before .before .before .before .before .before .before .loop .out) (w .bytes)) (sym (walk-byte (c .before .before .before .before .before .before .before .before .before .before .before .args .input .now) (c .before .before .before .before .before .before .before .before .loop .p) (omega arith) (c .before .before .before .if3 .taken) (c .before .escape .result) (c .before .escape .ensures .0) (c .before .escape .ensures .1 .least (omega arith)))) ∙ c .before .before .before .before .before .before .before .before .loop .inv .2)
+loop-again c =
+    let f = c .before .before .before .before .before in
+    let at = f .before .before .before .before .before .loop in
+    let s = f .before .before .before .before .before .before .before .before .args .input .now in
+    let e = sym (ap pieceMeaning (c .before .byte .given .1)) ∙ c .before .before .before .escape .ensures in
+    (omega (arith, escape-size _ _ _ e .0), simp length-set (at .inv .1), written-more (at .n) (at .out) _ _ (omega arith) ∙ ap (λ (w : Walk). written (at .n) (at .out) (w .bytes)) (sym (walk-byte s (at .p) (omega arith) (f .if3 .taken) _ _ e)) ∙ at .inv .2)
+
+enum-told : tie.Need-enum-told Inv-loop μ-loop
+enum-told c = search needs
+
+same-length-3 : tie.Need-same-length-3 Inv-loop μ-loop
+same-length-3 c = search needs
+
+returns-3 : tie.Need-returns-3 Inv-loop μ-loop
+returns-3 c =
+    let f = c .before .before .before .before in
+    let at = f .before .before .before .before .before .loop in
+    let s = f .before .before .before .before .before .before .before .before .args .input .now in
+    let e = sym (ap pieceMeaning (c .enum-told .given .1)) ∙ c .before .before .escape .ensures in
+    written-end (at .n) _ _ (ap (λ (w : Walk). w .bytes) (walk-ends s (at .p) (omega arith) (f .if3 .taken) cut e)) ∙ at .inv .2
+
+enum-told-2 : tie.Need-enum-told-2 Inv-loop μ-loop
+enum-told-2 c = search needs
+
+same-length-4 : tie.Need-same-length-4 Inv-loop μ-loop
+same-length-4 c = search needs
+
+returns-4 : tie.Need-returns-4 Inv-loop μ-loop
+returns-4 c =
+    let f = c .before .before .before .before in
+    let at = f .before .before .before .before .before .loop in
+    let s = f .before .before .before .before .before .before .before .before .args .input .now in
+    let e = sym (ap pieceMeaning (c .enum-told2 .given .1)) ∙ c .before .before .escape .ensures in
+    written-end (at .n) _ _ (ap (λ (w : Walk). w .bytes) (walk-ends s (at .p) (omega arith) (f .if3 .taken) badHex e)) ∙ at .inv .2
 
 slice-write-out-2 : tie.Need-slice-write-out-2 Inv-loop μ-loop
 slice-write-out-2 c = search needs
@@ -88,13 +120,16 @@ loop-less-2 : tie.Need-loop-less-2 Inv-loop μ-loop
 loop-less-2 c = search needs
 
 loop-again-2 : tie.Need-loop-again-2 Inv-loop μ-loop
-loop-again-2 c = (search needs, simp length-set (c .before .before .before .before .before .loop .inv .1), written-more (c .before .before .before .before .before .loop .n) (c .before .before .before .before .before .loop .out) _ _ (omega arith) ∙ ap (λ (w : Walk). written (c .before .before .before .before .before .loop .n) (c .before .before .before .before .before .loop .out) (w .bytes)) (sym (walk-plain (c .before .before .before .before .before .before .before .before .args .input .now) (c .before .before .before .before .before .loop .p) (omega arith) (c .before .if2 .left) (c .if3 .left))) ∙ c .before .before .before .before .before .loop .inv .2)
+loop-again-2 c =
+    let at = c .before .before .before .before .before .loop in
+    let s = c .before .before .before .before .before .before .before .before .args .input .now in
+    (search needs, simp length-set (at .inv .1), written-more (at .n) (at .out) _ _ (omega arith) ∙ ap (λ (w : Walk). written (at .n) (at .out) (w .bytes)) (sym (walk-plain s (at .p) (omega arith) (c .before .if2 .left) (c .if3 .left))) ∙ at .inv .2)
 
-same-length-4 : tie.Need-same-length-4 Inv-loop μ-loop
-same-length-4 c = search needs
+same-length-5 : tie.Need-same-length-5 Inv-loop μ-loop
+same-length-5 c = search needs
 
-returns-4 : tie.Need-returns-4 Inv-loop μ-loop
-returns-4 c = written-end (c .before .loop .n) _ _ (ap (λ (w : Walk). w .bytes) (walk-out (c .before .before .before .before .args .input .now) (c .before .loop .p) (omega arith))) ∙ c .before .loop .inv .2
+returns-5 : tie.Need-returns-5 Inv-loop μ-loop
+returns-5 c = written-end (c .before .loop .n) _ _ (ap (λ (w : Walk). w .bytes) (walk-out (c .before .before .before .before .args .input .now) (c .before .loop .p) (omega arith))) ∙ c .before .loop .inv .2
 
 pub write-spec : {M : Type 1} → statement M
 write-spec =
@@ -113,18 +148,22 @@ write-spec =
     part-escape-start
     part-escape-end
     escape-requires
-    same-length-3
-    returns-3
-    cast-out
+    enum-known-byte
     slice-write-out
     add-p
     add-n
     loop-less
     loop-again
+    enum-told
+    same-length-3
+    returns-3
+    enum-told-2
+    same-length-4
+    returns-4
     slice-write-out-2
     add-p-2
     add-n-2
     loop-less-2
     loop-again-2
-    same-length-4
-    returns-4)
+    same-length-5
+    returns-5)
