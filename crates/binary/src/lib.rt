@@ -13,7 +13,6 @@ ghost use Rattle.token.specs.Strings.{unescapedMeaning, bytesAnswer, bytesWritt
 ghost use Rattle.binary.specs.Binary.{ofSize, ofLength, ofVarint, doubleAt, binaryAt};
 ghost use Rattle.binary.specs.Strings.{binaryStringAt};
 use refusal::Refusal;
-use token::Extent;
 use token::Mark;
 use token::Read;
 use token::Token;
@@ -176,18 +175,5 @@ pub fn binary_string_bytes(input: &[u8], at: usize, out: &mut [u8]) -> Unescaped
     ensures answer { λ r. ⌜ unescapedMeaning r ≡ bytesAnswer (binaryStringAt (now (input .entry)) at) (length (now (out .entry))) ⌝ }
     ensures written { λ r. ⌜ now (out .exit) ≡ bytesWritten (binaryStringAt (now (input .entry)) at) (now (out .entry)) ⌝ }
 {
-    match binary_token(input, at) {
-        Read::Token {
-            token,
-            first: _,
-            next,
-        } => match token.extent() {
-            Extent::Plain { start, len } => strings::plain_bytes(input, start, len, next, out),
-            Extent::Quoted { start: _, len: _ } => Unescaped::NotString,
-            Extent::None => Unescaped::NotString,
-        },
-        Read::Incomplete => Unescaped::Incomplete,
-        Read::Refused { refusal } => Unescaped::Refused { refusal },
-        Read::Beyond => Unescaped::Beyond,
-    }
+    strings::found_bytes(input, binary_token(input, at), out)
 }

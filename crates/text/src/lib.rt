@@ -12,7 +12,6 @@ ghost use Rattle.number.specs.Number.{numberAt};
 ghost use Rattle.text.specs.Text.{startsNumber, startsPlain, plainAt, started, startedAt, textFrom, textAt};
 ghost use Rattle.text.specs.Strings.{stringStartedAt, textStringAt};
 use refusal::Refusal;
-use token::Extent;
 use token::Mark;
 use token::Read;
 use token::Token;
@@ -209,20 +208,7 @@ fn first_bytes(input: &[u8], p: usize, out: &mut [u8]) -> Unescaped
     if input[p] == b'"' {
         return unescape::unescape(input, p, out);
     }
-    match first_token(input, p) {
-        Read::Token {
-            token,
-            first: _,
-            next,
-        } => match token.extent() {
-            Extent::Plain { start, len } => strings::plain_bytes(input, start, len, next, out),
-            Extent::Quoted { start: _, len: _ } => Unescaped::NotString,
-            Extent::None => Unescaped::NotString,
-        },
-        Read::Incomplete => Unescaped::Incomplete,
-        Read::Refused { refusal } => Unescaped::Refused { refusal },
-        Read::Beyond => Unescaped::Beyond,
-    }
+    strings::found_bytes(input, first_token(input, p), out)
 }
 
 // The bytes of the string at a place, its escapes undone, into `out`. Order: 26, the token's own answer, 14, 27; only an accepted
