@@ -8,12 +8,10 @@ ghost use lib.ListN.{length};
 ghost use Rattle.varint.specs.Varint.{uvarintAt};
 ghost use Rattle.varint.specs.Zigzag.{signed, varintAt};
 ghost use Rattle.token.specs.Meaning.{readMeaning};
-ghost use Rattle.token.specs.Marks.{markOf, ofMark};
 ghost use Rattle.token.specs.Strings.{unescapedMeaning, bytesAnswer, bytesWritten};
 ghost use Rattle.binary.specs.Binary.{ofSize, ofLength, ofVarint, doubleAt, binaryAt};
 ghost use Rattle.binary.specs.Strings.{binaryStringAt};
 use refusal::Refusal;
-use token::Mark;
 use token::Read;
 use token::Token;
 use token::Unescaped;
@@ -123,23 +121,6 @@ fn string_token(input: &[u8], at: usize) -> Read
     }
 }
 
-// A mark, or a byte that starts no token.
-fn mark_token(b: u8, at: usize) -> Read
-    requires { ⌜ at + 1 < 0x1_0000_0000_0000_0000 ⌝ }
-    ensures { λ r. ⌜ readMeaning r ≡ ofMark at (markOf b) ⌝ }
-{
-    match token::mark_of(b) {
-        Mark::Is { token } => Read::Token {
-            token,
-            first: at,
-            next: at + 1,
-        },
-        Mark::Not => Read::Refused {
-            refusal: Refusal::BadByte { place: at },
-        },
-    }
-}
-
 // The token at a place.
 pub fn binary_token(input: &[u8], at: usize) -> Read
     ensures { λ r. ⌜ readMeaning r ≡ binaryAt (now (input .entry)) at ⌝ }
@@ -166,7 +147,7 @@ pub fn binary_token(input: &[u8], at: usize) -> Read
             next: at + 1,
         },
         0x06 => uint64_token(input, at),
-        _ => mark_token(b, at),
+        _ => token::mark_at(input, at),
     }
 }
 
