@@ -8,13 +8,10 @@ ghost use lib.ListN.{length};
 ghost use Rattle.varint.specs.Varint.{uvarintAt};
 ghost use Rattle.varint.specs.Zigzag.{signed, varintAt};
 ghost use Rattle.token.specs.Meaning.{readMeaning};
-ghost use Rattle.token.specs.Marks.{markOf, ofMark};
 ghost use Rattle.token.specs.Strings.{unescapedMeaning, bytesAnswer, bytesWritten};
 ghost use Rattle.binary.specs.Binary.{ofSize, ofLength, ofVarint, doubleAt, binaryAt};
 ghost use Rattle.binary.specs.Strings.{binaryStringAt};
 use refusal::Refusal;
-use token::Extent;
-use token::Mark;
 use token::Read;
 use token::Token;
 use token::Unescaped;
@@ -124,23 +121,6 @@ fn string_token(input: &[u8], at: usize) -> Read
     }
 }
 
-// A mark, or a byte that starts no token.
-fn mark_token(b: u8, at: usize) -> Read
-    requires { ⌜ at + 1 < 0x1_0000_0000_0000_0000 ⌝ }
-    ensures { λ r. ⌜ readMeaning r ≡ ofMark at (markOf b) ⌝ }
-{
-    match token::mark_of(b) {
-        Mark::Is { token } => Read::Token {
-            token,
-            first: at,
-            next: at + 1,
-        },
-        Mark::Not => Read::Refused {
-            refusal: Refusal::BadByte { place: at },
-        },
-    }
-}
-
 // The token at a place.
 pub fn binary_token(input: &[u8], at: usize) -> Read
     ensures { λ r. ⌜ readMeaning r ≡ binaryAt (now (input .entry)) at ⌝ }
@@ -167,7 +147,7 @@ pub fn binary_token(input: &[u8], at: usize) -> Read
             next: at + 1,
         },
         0x06 => uint64_token(input, at),
-        _ => mark_token(b, at),
+        _ => token::mark_at(input, at),
     }
 }
 
@@ -176,18 +156,5 @@ pub fn binary_string_bytes(input: &[u8], at: usize, out: &mut [u8]) -> Unescaped
     ensures answer { λ r. ⌜ unescapedMeaning r ≡ bytesAnswer (binaryStringAt (now (input .entry)) at) (length (now (out .entry))) ⌝ }
     ensures written { λ r. ⌜ now (out .exit) ≡ bytesWritten (binaryStringAt (now (input .entry)) at) (now (out .entry)) ⌝ }
 {
-    match binary_token(input, at) {
-        Read::Token {
-            token,
-            first: _,
-            next,
-        } => match token.extent() {
-            Extent::Plain { start, len } => strings::plain_bytes(input, start, len, next, out),
-            Extent::Quoted { start: _, len: _ } => Unescaped::NotString,
-            Extent::None => Unescaped::NotString,
-        },
-        Read::Incomplete => Unescaped::Incomplete,
-        Read::Refused { refusal } => Unescaped::Refused { refusal },
-        Read::Beyond => Unescaped::Beyond,
-    }
+    strings::found_bytes(input, binary_token(input, at), out)
 }

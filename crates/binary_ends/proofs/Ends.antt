@@ -99,6 +99,10 @@ module _ (s : List ℕ) (at : ℕ) where
   pub scalar-at : (b : ℕ) → at < length s → getD s at 0 ≡ b → scalarEnd (kindsOf (marked s at b)) ≡ scalarEnd (kindsOf (binaryFrom s at))
   scalar-at b h e = sym (ap (λ (p : Paper (Spot Token)). scalarEnd (kindsOf p)) (inside s at h ∙ ap (marked s at) e))
 
+  -- the token of one byte at a place, by that byte
+  pub one-byte : (b : ℕ) → at < length s → getD s at 0 ≡ b → endOf (marked s at b) ≡ at + 1 → at + 1 ≡ endOf (binaryFrom s at)
+  one-byte b h e m = sym (ap endOf (inside s at h ∙ ap (marked s at) e) ∙ m)
+
   -- ---- no string but behind 01
 
   int64-no : (p : Paper (Got ℤ)) → NoString (ofVarint at Int64 p)

@@ -1,4 +1,4 @@
--- What handing a part out answers and writes, by whether it fits; and the parts of a slice as lists. Assumes nothing.
+-- What handing a string out answers and writes, by the string and by whether it fits; and the parts of a slice as lists. Assumes nothing.
 use mathlib.Core.Path.{_≡_, refl, sym, ap, _∙_}
 use mathlib.Core.List.{List, [], _∷_, _++_}
 use Prim.Native.Nat.{ℕ, _+_, _-_, _≤_, _<_}
@@ -10,6 +10,11 @@ use Rattle.refusal.specs.Numbers.{shortOutput}
 use Rattle.refusal.specs.Paper.{Paper, gives, refused, Got, got}
 use Rattle.token.specs.Strings.{bytesAnswer, bytesWritten}
 use Rattle.strings.specs.Part.{partOf}
+
+-- what is answered and written for one string is so for another that is the same
+pub handed : {p q : Paper (Got (List ℕ))} {a : Paper (Got ℕ)} {w : List ℕ} (out : List ℕ) → p ≡ q
+    → (a ≡ bytesAnswer p (length out)) × (w ≡ bytesWritten p out) → (a ≡ bytesAnswer q (length out)) × (w ≡ bytesWritten q out)
+handed out e h = (h .0 ∙ ap (λ p. bytesAnswer p (length out)) e, h .1 ∙ ap (λ p. bytesWritten p out) e)
 
 module _ (bytes : List ℕ) (next : ℕ) (out : List ℕ) where
   pub no-room : length out < length bytes → (bytesAnswer (partOf bytes next) (length out) ≡ refused shortOutput []) × (bytesWritten (partOf bytes next) out ≡ out)

@@ -4,8 +4,11 @@ ghost use mathlib.Core.Path.{_≡_};
 ghost use mathlib.Core.List.{_++_};
 ghost use Prim.Native.Nat.{_+_, _≤_};
 ghost use lib.ListN.{length, take, drop};
-ghost use Rattle.token.specs.Strings.{unescapedMeaning, bytesAnswer, bytesWritten};
+ghost use Rattle.token.specs.Meaning.{readMeaning};
+ghost use Rattle.token.specs.Strings.{unescapedMeaning, bytesAnswer, bytesWritten, stringFound};
 ghost use Rattle.strings.specs.Part.{partOf};
+use token::Extent;
+use token::Read;
 use token::Unescaped;
 
 // Copies all of `bytes` to the front of `out`, which has room for them.
@@ -48,4 +51,25 @@ pub fn plain_bytes(input: &[u8], start: usize, len: usize, next: usize, out: &mu
     }
     let end = start + len;
     put_part(&input[start..end], next, out)
+}
+
+// The bytes of the string that was read, into `out`: the token's own answer, 14, 27; only an accepted call writes.
+pub fn found_bytes(input: &[u8], read: Read, out: &mut [u8]) -> Unescaped
+    ensures answer { λ r. ⌜ unescapedMeaning r ≡ bytesAnswer (stringFound (now (input .entry)) (readMeaning read)) (length (now (out .entry))) ⌝ }
+    ensures written { λ r. ⌜ now (out .exit) ≡ bytesWritten (stringFound (now (input .entry)) (readMeaning read)) (now (out .entry)) ⌝ }
+{
+    match read {
+        Read::Token {
+            token,
+            first: _,
+            next,
+        } => match token.extent() {
+            Extent::Plain { start, len } => plain_bytes(input, start, len, next, out),
+            Extent::Quoted { start: _, len: _ } => Unescaped::NotString,
+            Extent::None => Unescaped::NotString,
+        },
+        Read::Incomplete => Unescaped::Incomplete,
+        Read::Refused { refusal } => Unescaped::Refused { refusal },
+        Read::Beyond => Unescaped::Beyond,
+    }
 }

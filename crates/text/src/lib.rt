@@ -5,15 +5,11 @@ ghost use mathlib.Core.Bool.{true};
 ghost use Prim.Native.Nat.{_+_, _<_};
 ghost use lib.ListN.{length, getD};
 ghost use Rattle.token.specs.Meaning.{readMeaning, kindsOf};
-ghost use Rattle.token.specs.Marks.{markOf, ofMark};
 ghost use Rattle.token.specs.Ends.{endOf, stringEnd, scalarEnd};
 ghost use Rattle.token.specs.Strings.{unescapedMeaning, bytesAnswer, bytesWritten};
 ghost use Rattle.number.specs.Number.{numberAt};
 ghost use Rattle.text.specs.Text.{startsNumber, startsPlain, plainAt, started, startedAt, textFrom, textAt};
 ghost use Rattle.text.specs.Strings.{stringStartedAt, textStringAt};
-use refusal::Refusal;
-use token::Extent;
-use token::Mark;
 use token::Read;
 use token::Token;
 use token::Unescaped;
@@ -39,23 +35,6 @@ fn starts_plain(b: u8) -> bool
         return true;
     }
     b == b'_'
-}
-
-// A mark, or a byte that starts no token.
-fn mark_token(b: u8, at: usize) -> Read
-    requires { ⌜ at + 1 < 0x1_0000_0000_0000_0000 ⌝ }
-    ensures { λ r. ⌜ readMeaning r ≡ ofMark at (markOf b) ⌝ }
-{
-    match token::mark_of(b) {
-        Mark::Is { token } => Read::Token {
-            token,
-            first: at,
-            next: at + 1,
-        },
-        Mark::Not => Read::Refused {
-            refusal: Refusal::BadByte { place: at },
-        },
-    }
 }
 
 // An unquoted string.
@@ -91,7 +70,7 @@ fn first_token(input: &[u8], p: usize) -> Read
     if starts_plain(b) {
         return plain_token(input, p);
     }
-    mark_token(b, p)
+    token::mark_at(input, p)
 }
 
 // The token at a place.
@@ -209,20 +188,7 @@ fn first_bytes(input: &[u8], p: usize, out: &mut [u8]) -> Unescaped
     if input[p] == b'"' {
         return unescape::unescape(input, p, out);
     }
-    match first_token(input, p) {
-        Read::Token {
-            token,
-            first: _,
-            next,
-        } => match token.extent() {
-            Extent::Plain { start, len } => strings::plain_bytes(input, start, len, next, out),
-            Extent::Quoted { start: _, len: _ } => Unescaped::NotString,
-            Extent::None => Unescaped::NotString,
-        },
-        Read::Incomplete => Unescaped::Incomplete,
-        Read::Refused { refusal } => Unescaped::Refused { refusal },
-        Read::Beyond => Unescaped::Beyond,
-    }
+    strings::found_bytes(input, first_token(input, p), out)
 }
 
 // The bytes of the string at a place, its escapes undone, into `out`. Order: 26, the token's own answer, 14, 27; only an accepted

@@ -1,8 +1,8 @@
 // Tokens: the smallest parts of YSON that mean something, and what reading one at a place answers.
 // The cases are those of the Rust's `Token`; where that holds bytes, these hold the place and the length of the bytes in the input.
 ghost use mathlib.Core.Path.{_≡_};
-ghost use Rattle.token.specs.Meaning.{kindOf, extentOf};
-ghost use Rattle.token.specs.Marks.{markOf};
+ghost use Rattle.token.specs.Meaning.{readMeaning, kindOf, extentOf};
+ghost use Rattle.token.specs.Marks.{markOf, markAt};
 use refusal::Refusal;
 
 pub enum Token {
@@ -118,7 +118,7 @@ pub enum Mark {
 }
 
 // The token that a byte is by itself: one of `# < > [ ] { } = ;`.
-pub fn mark_of(b: u8) -> Mark
+fn mark_of(b: u8) -> Mark
     ensures { λ r. ⌜ r ≡ markOf b ⌝ }
 {
     match b {
@@ -169,6 +169,28 @@ pub enum Read {
     },
     // 26: the place lies beyond the slice.
     Beyond,
+}
+
+// The token at a place where marks are the only tokens.
+pub fn mark_at(input: &[u8], at: usize) -> Read
+    ensures { λ r. ⌜ readMeaning r ≡ markAt (now (input .entry)) at ⌝ }
+{
+    if input.len() < at {
+        return Read::Beyond;
+    }
+    if input.len() <= at {
+        return Read::Incomplete;
+    }
+    match mark_of(input[at]) {
+        Mark::Is { token } => Read::Token {
+            token,
+            first: at,
+            next: at + 1,
+        },
+        Mark::Not => Read::Refused {
+            refusal: Refusal::BadByte { place: at },
+        },
+    }
 }
 
 // What asking for a string's bytes answers. Only `Bytes` writes: every other answer leaves the output as it was.

@@ -2,6 +2,7 @@
 use mathlib.Core.Path.{_≡_, _∙_, sym, ap}
 use native.Mathlib.Omega.{arith}
 use denote.Ref.{now}
+use Rattle.token.proofs.Marks.{mark-inside}
 use Rattle.binary.specs.Binary.{marked}
 use Rattle.binary.proofs.Laws.{beyond, from-is, ended, at-marked, unmarked}
 use borrow.Author.Needs.{needs}
@@ -37,8 +38,8 @@ add-t12 c = search needs
 uint64-token-requires : tie.Need-uint64-token-requires
 uint64-token-requires c κs = search needs
 
-mark-token-requires : tie.Need-mark-token-requires
-mark-token-requires c κs = search needs
+mark-at-requires : tie.Need-mark-at-requires
+mark-at-requires c κs = search needs
 
 returns-3 : tie.Need-returns-3
 unfolding marked
@@ -80,7 +81,7 @@ returns-9 : tie.Need-returns-9
 returns-9 c =
     let x = c .before .before .before .before .before .before .args in
     let r = c .before .match .rest in
-    c .mark-token .ensures
+    c .mark-at .ensures ∙ mark-inside (now (x .input)) (x .at) (omega arith)
     ∙ sym
     (at-marked (now (x .input)) (x .at) (omega arith)
     ∙ unmarked (now (x .input)) (x .at) _ (r .0 .0 .0 .0 .0 .1) (r .0 .0 .0 .0 .1) (r .0 .0 .0 .1) (r .0 .0 .1) (r .0 .1) (r .1))
@@ -98,7 +99,7 @@ binary-token-spec =
     add-t10
     add-t12
     uint64-token-requires
-    mark-token-requires
+    mark-at-requires
     returns-3
     returns-4
     returns-5

@@ -1,7 +1,10 @@
 -- `token_end` meets its contract: a scalar's end, or a mark's.
-use mathlib.Core.Path.{_≡_, _∙_, sym, ap}
+use mathlib.Core.Path.{_≡_, refl, _∙_, sym, ap}
+use mathlib.Core.List.{List}
+use Prim.Native.Nat.{ℕ, _+_}
 use native.Mathlib.Omega.{arith}
 use denote.Ref.{now}
+use lib.ListN.{getD}
 use Rattle.refusal.specs.Paper.{Paper, Spot}
 use Rattle.token.specs.declared.Token.{Token}
 use Rattle.token.specs.Meaning.{kindsOf}
@@ -9,7 +12,7 @@ use Rattle.token.specs.Marks.{markOf}
 use Rattle.token.specs.Ends.{endOf, scalarEnd}
 use Rattle.binary.specs.Binary.{marked, binaryFrom}
 use Rattle.binary.proofs.Laws.{ended, inside}
-use Rattle.binary_ends.proofs.Ends.{end-of-scalar, rest-ends}
+use Rattle.binary_ends.proofs.Ends.{one-byte, end-of-scalar, rest-ends}
 use borrow.Author.Needs.{needs}
 use Rattle.binary_ends.proofs.token_end.Statement.{statement}
 use Rattle.binary_ends.proofs.token_end.Tie as tie
@@ -53,53 +56,48 @@ add-result-7 c = search needs
 add-result-8 : tie.Need-add-result-8
 add-result-8 c = search needs
 
+-- the byte at the place is b, and it is a token by itself
+module _ (c : tie.After-shared-slice-known2) (b : ℕ) where
+  abbrev bytes : List ℕ
+  bytes = now (c .before .before .before .before .before .args .input)
+
+  abbrev place : ℕ
+  place = c .before .before .before .before .before .args .at
+
+  mark : getD bytes place 0 ≡ b → endOf (marked bytes place b) ≡ place + 1 → place + 1 ≡ endOf (binaryFrom bytes place)
+  mark = one-byte bytes place b (omega arith)
+
 returns-3 : tie.Need-returns-3
 unfolding marked markOf
-returns-3 c =
-    let x = c .before .before .before .before .before .before .args in
-    sym (ap endOf (inside (now (x .input)) (x .at) (omega arith) ∙ ap (marked (now (x .input)) (x .at)) (c .match .keys1)))
+returns-3 c = mark (c .before) _ (c .match .keys1) refl
 
 returns-4 : tie.Need-returns-4
 unfolding marked markOf
-returns-4 c =
-    let x = c .before .before .before .before .before .before .args in
-    sym (ap endOf (inside (now (x .input)) (x .at) (omega arith) ∙ ap (marked (now (x .input)) (x .at)) (c .match .keys2)))
+returns-4 c = mark (c .before) _ (c .match .keys2) refl
 
 returns-5 : tie.Need-returns-5
 unfolding marked markOf
-returns-5 c =
-    let x = c .before .before .before .before .before .before .args in
-    sym (ap endOf (inside (now (x .input)) (x .at) (omega arith) ∙ ap (marked (now (x .input)) (x .at)) (c .match .keys3)))
+returns-5 c = mark (c .before) _ (c .match .keys3) refl
 
 returns-6 : tie.Need-returns-6
 unfolding marked markOf
-returns-6 c =
-    let x = c .before .before .before .before .before .before .args in
-    sym (ap endOf (inside (now (x .input)) (x .at) (omega arith) ∙ ap (marked (now (x .input)) (x .at)) (c .match .keys4)))
+returns-6 c = mark (c .before) _ (c .match .keys4) refl
 
 returns-7 : tie.Need-returns-7
 unfolding marked markOf
-returns-7 c =
-    let x = c .before .before .before .before .before .before .args in
-    sym (ap endOf (inside (now (x .input)) (x .at) (omega arith) ∙ ap (marked (now (x .input)) (x .at)) (c .match .keys5)))
+returns-7 c = mark (c .before) _ (c .match .keys5) refl
 
 returns-8 : tie.Need-returns-8
 unfolding marked markOf
-returns-8 c =
-    let x = c .before .before .before .before .before .before .args in
-    sym (ap endOf (inside (now (x .input)) (x .at) (omega arith) ∙ ap (marked (now (x .input)) (x .at)) (c .match .keys6)))
+returns-8 c = mark (c .before) _ (c .match .keys6) refl
 
 returns-9 : tie.Need-returns-9
 unfolding marked markOf
-returns-9 c =
-    let x = c .before .before .before .before .before .before .args in
-    sym (ap endOf (inside (now (x .input)) (x .at) (omega arith) ∙ ap (marked (now (x .input)) (x .at)) (c .match .keys7)))
+returns-9 c = mark (c .before) _ (c .match .keys7) refl
 
 returns-10 : tie.Need-returns-10
 unfolding marked markOf
-returns-10 c =
-    let x = c .before .before .before .before .before .before .args in
-    sym (ap endOf (inside (now (x .input)) (x .at) (omega arith) ∙ ap (marked (now (x .input)) (x .at)) (c .match .keys8)))
+returns-10 c = mark (c .before) _ (c .match .keys8) refl
 
 returns-11 : tie.Need-returns-11
 returns-11 c =

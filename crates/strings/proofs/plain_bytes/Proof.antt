@@ -1,12 +1,10 @@
 -- `plain_bytes` meets its contract: each part is the same list as the definition's.
-use mathlib.Core.Path.{_≡_, refl, ap, _∙_}
+use mathlib.Core.Path.{refl, ap}
 use mathlib.Core.List.{List}
 use Prim.Native.Nat.{ℕ}
 use denote.Ref.{now}
-use lib.ListN.{length}
-use Rattle.token.specs.Strings.{bytesAnswer, bytesWritten}
 use Rattle.strings.specs.Part.{partOf}
-use Rattle.strings.proofs.Laws.{past-end, to-end, part-is}
+use Rattle.strings.proofs.Laws.{handed, past-end, to-end, part-is}
 use borrow.Author.Needs.{needs}
 use Rattle.strings.proofs.plain_bytes.Statement.{statement}
 use Rattle.strings.proofs.plain_bytes.Tie as tie
@@ -25,7 +23,7 @@ returns c =
     let x = c .before .before .before .before .before .before .before .before .args in
     let w = c .before .before .put-part .ensures in
     let e = past-end (now (x .input)) (x .start) (x .len) (search needs) in
-    (w .0 ∙ ap (λ (l : List ℕ). bytesAnswer (partOf l (x .next)) (length (now (x .out)))) e, w .1 ∙ ap (λ (l : List ℕ). bytesWritten (partOf l (x .next)) (now (x .out))) e)
+    handed (now (x .out)) (ap (λ (l : List ℕ). partOf l (x .next)) e) w
 
 sub-if2 : tie.Need-sub-if2
 sub-if2 c = search needs
@@ -50,7 +48,7 @@ returns-2 c =
     let x = c .before .before .before .before .before .before .before .before .before .args in
     let w = c .before .before .put-part2 .ensures in
     let e = to-end (now (x .input)) (x .start) (x .len) (search needs) in
-    (w .0 ∙ ap (λ (l : List ℕ). bytesAnswer (partOf l (x .next)) (length (now (x .out)))) e, w .1 ∙ ap (λ (l : List ℕ). bytesWritten (partOf l (x .next)) (now (x .out))) e)
+    handed (now (x .out)) (ap (λ (l : List ℕ). partOf l (x .next)) e) w
 
 add-end : tie.Need-add-end
 add-end c = search needs
@@ -75,7 +73,7 @@ returns-3 c =
     let x = c .before .before .before .before .before .before .before .before .before .args in
     let w = c .before .before .put-part3 .ensures in
     let e = part-is (now (x .input)) (x .start) (x .len) _ refl in
-    (w .0 ∙ ap (λ (l : List ℕ). bytesAnswer (partOf l (x .next)) (length (now (x .out)))) e, w .1 ∙ ap (λ (l : List ℕ). bytesWritten (partOf l (x .next)) (now (x .out))) e)
+    handed (now (x .out)) (ap (λ (l : List ℕ). partOf l (x .next)) e) w
 
 pub plain-bytes-spec : {M : Type 1} → statement M
 plain-bytes-spec =

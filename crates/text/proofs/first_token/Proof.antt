@@ -1,7 +1,9 @@
 -- `first_token` meets its contract: each test is one of the definition's.
 use mathlib.Core.Path.{_≡_, _∙_, sym}
+use native.Mathlib.Omega.{arith}
 use denote.Ref.{now}
 use lib.ListN.{getD}
+use Rattle.token.proofs.Marks.{mark-inside}
 use Rattle.text.proofs.Laws.{is-quoted, is-word, is-number, is-plain, is-mark}
 use borrow.Author.Needs.{needs}
 use Rattle.text.proofs.first_token.Statement.{statement}
@@ -59,15 +61,15 @@ returns-4 c =
     ∙ sym
     (is-plain s (x .p) b (c .before .before .before .before .before .before .if1 .left) (c .before .before .before .before .before .if2 .left) (sym (c .before .before .before .before .starts-number .ensures) ∙ c .before .before .before .if3 .left) (sym (c .before .before .starts-plain .ensures) ∙ c .before .if4 .taken))
 
-mark-token-requires : tie.Need-mark-token-requires
-mark-token-requires c κs = search needs
+mark-at-requires : tie.Need-mark-at-requires
+mark-at-requires c κs = search needs
 
 returns-5 : tie.Need-returns-5
 returns-5 c =
     let x = c .before .before .before .before .before .before .before .before .before .args in
     let s = now (x .input) in
     let b = getD s (x .p) 0 in
-    c .mark-token .ensures
+    c .mark-at .ensures ∙ mark-inside s (x .p) (omega arith)
     ∙ sym
     (is-mark s (x .p) b (c .before .before .before .before .before .before .if1 .left) (c .before .before .before .before .before .if2 .left) (sym (c .before .before .before .before .starts-number .ensures) ∙ c .before .before .before .if3 .left) (sym (c .before .before .starts-plain .ensures) ∙ c .before .if4 .left))
 
@@ -86,5 +88,5 @@ first-token-spec =
     starts-plain-requires
     plain-token-requires
     returns-4
-    mark-token-requires
+    mark-at-requires
     returns-5)

@@ -1,8 +1,8 @@
 -- `text_string_bytes` meets its contract.
-use mathlib.Core.Path.{_≡_, _∙_, sym, ap}
+use mathlib.Core.Path.{refl, sym, ap, _∙_}
 use denote.Ref.{now}
-use lib.ListN.{length}
 use Rattle.token.specs.Strings.{bytesAnswer, bytesWritten}
+use Rattle.strings.proofs.Laws.{handed}
 use Rattle.text.specs.Strings.{stringStartedAt}
 use Rattle.text.proofs.Laws.{string-beyond, string-from}
 use borrow.Author.Needs.{needs}
@@ -13,10 +13,7 @@ returns : tie.Need-returns
 unfolding bytesAnswer bytesWritten
 returns c =
     let x = c .before .before .before .args in
-    let s = now (x .input) in
-    let o = now (x .out) in
-    let e = string-beyond s (x .at) (c .if1 .taken) in
-    (sym (ap (λ p. bytesAnswer p (length o)) e), sym (ap (λ p. bytesWritten p o) e))
+    handed (now (x .out)) (sym (string-beyond (now (x .input)) (x .at) (c .if1 .taken))) (refl, refl)
 
 skip-ignored-requires : tie.Need-skip-ignored-requires
 skip-ignored-requires c κs = search needs
@@ -31,10 +28,8 @@ returns-2 : tie.Need-returns-2
 returns-2 c =
     let x = c .before .before .before .before .before .before .before .before .args in
     let s = now (x .input) in
-    let o = now (x .out) in
     let e = ap (stringStartedAt s) (c .before .before .before .before .skip-ignored .ensures) ∙ sym (string-from s (x .at) (c .before .before .before .before .before .if1 .left)) in
-    let w = c .before .before .first-bytes .ensures in
-    (w .0 ∙ ap (λ p. bytesAnswer p (length o)) e, w .1 ∙ ap (λ p. bytesWritten p o) e)
+    handed (now (x .out)) e (c .before .before .first-bytes .ensures)
 
 pub text-string-bytes-spec : {M : Type 1} → statement M
 text-string-bytes-spec =
