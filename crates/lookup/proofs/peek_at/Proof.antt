@@ -11,6 +11,8 @@ use Rattle.cursor.specs.declared.Peek.{Peek}
 use Rattle.cursor.proofs.Peek as S
 use Rattle.cursor.proofs.Peek.Laws as S′
 use Rattle.cursor.proofs.At.{at-meets}
+use Rattle.cursor.proofs.YsonIterator.new.Met as new-thm
+use Rattle.cursor.proofs.YsonIterator.moved.Met as moved-thm
 use Rattle.cursor.proofs.YsonIterator.peek_byte.Symbol as method
 use Rattle.cursor.proofs.YsonIterator.peek_byte.Met as method-thm
 use Rattle.lookup.proofs.peek_at.Key.{name as #lookup·peek-at}
@@ -25,4 +27,5 @@ pub peek-at-spec : {M : Type 1} → stated.statement M
 unfolding code.routine
 peek-at-spec 𝓤 H 𝓜 𝓖 𝓡 =
     at-meets method.name S′.mir S.the-row Says 𝓤 H 𝓜 𝓖 𝓡 code.env (λ r u is. EL.lawful S.the-type S′.the-laws 𝓤 H (𝓖 .A) (givenOf 𝓤 H 𝓜 𝓖) tt .typed r _ is .0)
-    code.calls-cursor·YsonIterator·new code.calls-cursor·YsonIterator·moved method.routine code.calls-cursor·YsonIterator·peek-byte (method-thm.met 𝓤 H 𝓜 𝓖 𝓡) #lookup·peek-at (code.unfolded 𝓤 H 𝓜 𝓡)
+    code.calls-cursor·YsonIterator·new (new-thm.met 𝓤 H 𝓜 𝓖 𝓡) code.calls-cursor·YsonIterator·moved (moved-thm.met 𝓤 H 𝓜 𝓖 𝓡)
+    method.routine code.calls-cursor·YsonIterator·peek-byte (method-thm.met 𝓤 H 𝓜 𝓖 𝓡) #lookup·peek-at (code.unfolded 𝓤 H 𝓜 𝓡)

@@ -45,11 +45,15 @@ use Rattle.token.proofs.Unescaped as S
 use Rattle.token.proofs.Unescaped.Laws as S′
 use Rattle.lexer.specs.Lexer.{stringAt}
 use Rattle.cursor.specs.declared.YsonIterator.{YsonIterator}
-use Rattle.cursor.proofs.Placed.{slice-val, format-val, Made, Gone, placed, New, Moved, to-new, new-known, moved-known, asked-new, calls-new, calls-moved}
-use Rattle.cursor.proofs.Shapes.{B}
+use Rattle.cursor.proofs.Placed.{Made, Gone, placed, New, Moved, to-new, asked-new, calls-new, calls-moved}
+use Rattle.cursor.proofs.Shapes.{B, slice-val, format-val}
 use Rattle.cursor.proofs.Walks.{says-both}
+use Rattle.cursor.proofs.YsonIterator.new.Symbol as new-def
 use Rattle.cursor.proofs.YsonIterator.new.Symbol.{name as #new}
+use Rattle.cursor.proofs.YsonIterator.new.Met as new-thm
+use Rattle.cursor.proofs.YsonIterator.moved.Symbol as moved-def
 use Rattle.cursor.proofs.YsonIterator.moved.Symbol.{name as #moved}
+use Rattle.cursor.proofs.YsonIterator.moved.Met as moved-thm
 use Rattle.cursor.proofs.YsonIterator.string_bytes as bytes
 use Rattle.cursor.proofs.YsonIterator.string_bytes.Symbol as bytes-def
 use Rattle.cursor.proofs.YsonIterator.string_bytes.Symbol.{name as #bytes}
@@ -133,7 +137,7 @@ module _ {M : Type 1} (𝓤 : URA M) (H : Heap 𝓤) (A : Atoms 𝓤) (W : Given
       move ! (2 ∷ 1 ∷ []) $ join ! $ move ! (2 ∷ 0 ∷ []) $ join ! $ frame ! $ done !
 
   abbrev Asked : Item 𝓤
-  Asked = raw (New 𝓤 H A mem run .pre (to-new 𝓤 H A mem run κ q s f))
+  Asked = raw (New 𝓤 H A .pre (to-new 𝓤 H A κ q s f))
 
   goes-new : ent 𝓤 (onEntry 𝓤 H A string-at.signature κs (q, (q′, tt)) (s, (n, (f, (x, tt)))) at) (sep 𝓤 (mean 𝓤 H A Asked) (sep 𝓤 (mean 𝓤 H A tok′) (sem 𝓤 H A All)))
   goes-new =
@@ -144,7 +148,7 @@ module _ {M : Type 1} (𝓤 : URA M) (H : Heap 𝓤) (A : Atoms 𝓤) (W : Given
       -- [what is passed; what is kept; the tokens]
       move ! (2 ∷ []) $ split ! $ nothing ! $ move ! (1 ∷ 0 ∷ []) $ join ! $
       -- [the first token; the second; what is passed; what is kept]
-      move ! (0 ∷ 2 ∷ []) $ use2 W Asked (asked-new 𝓤 H A W mem run κ q s f) $ frame ! $ frame ! $ done !
+      move ! (0 ∷ 2 ∷ []) $ use2 W Asked (asked-new 𝓤 H A W κ q s f) $ frame ! $ frame ! $ done !
 
   -- the call of `string_bytes`
   abbrev to-bytes : YsonIterator → Val → Bytes 𝓤 H A mem run .Ghost
@@ -180,7 +184,7 @@ module _ {M : Type 1} (𝓤 : URA M) (H : Heap 𝓤) (A : Atoms 𝓤) (W : Given
       -- [the place; the format; the slice; the result; the last bytes]
       nothing ! $ move ! (5 ∷ 0 ∷ []) $ fjoin ! $ move ! (2 ∷ 0 ∷ []) $ fjoin ! $ move ! (1 ∷ 0 ∷ []) $ fjoin ! $ move ! (1 ∷ 0 ∷ []) $ fjoin ! $ frame ! $ done !
 
-  module _ (C : Calls 𝓤 H) (Λ : Loops 𝓤 H) (fm : FmC 𝓤 H (W .laws) C) (known-new : Triple 𝓤 (C #new) (New 𝓤 H A mem run)) (known-moved : Triple 𝓤 (C #moved) (Moved 𝓤 H A mem run)) (known-bytes : Triple 𝓤 (C #bytes) (Bytes 𝓤 H A mem run)) where
+  module _ (C : Calls 𝓤 H) (Λ : Loops 𝓤 H) (fm : FmC 𝓤 H (W .laws) C) (known-new : Triple 𝓤 (C #new) (New 𝓤 H A)) (known-moved : Triple 𝓤 (C #moved) (Moved 𝓤 H A)) (known-bytes : Triple 𝓤 (C #bytes) (Bytes 𝓤 H A mem run)) where
     walk : Is (ShrSlice (named 0) κ u8) s (v ∷ []) → Is (MutSlice (named 1) κ′ u8) x (o ∷ []) → ent 𝓤 (onEntry 𝓤 H A string-at.signature κs (q, (q′, tt)) (s, (n, (f, (x, tt)))) at) (WpFn 𝓤 H C Λ code.function (v ∷ nv ∷ fv ∷ o ∷ []) Post)
     walk p po =
         qed W (raw (onEntry 𝓤 H A string-at.signature κs (q, (q′, tt)) (s, (n, (f, (x, tt)))) at) ∷ []) ∵ enter ! C Λ code.function (v ∷ nv ∷ fv ∷ o ∷ []) _ $
@@ -188,10 +192,10 @@ module _ {M : Type 1} (𝓤 : URA M) (H : Heap 𝓤) (A : Atoms 𝓤) (W : Given
         pass1 ! (init ! 14 refl (shr-slice-lawful 𝓤 H A W (named 0) κ u8 .typed s (v ∷ []) p .0)) $ pass1 ! (init ! 12 refl (tt, record { fits = ok })) $ pass1 ! (init ! 10 refl (EL.lawful F.the-type F′.the-laws 𝓤 H A W tt .typed f _ isf .0)) $ pass1 ! (init ! 8 refl (tt, (tt, (record { fits = po .0 .1 .0 }, tt)))) $ pass0 ! $
         -- [room for _8; …; _7; …; _6; …; _5; …; _4; …; _3; …; _2; …; _1; …; room for _0; …; what is had at entry]
         move ! (18 ∷ []) $ use1 W (Asked ⊛ (tok′ ⊛ ‵ All)) goes-new $ split ! $
-        calls-new 𝓤 H A W mem run κ q ! fm known-new s f (and-then ! (load ! (from ! (stop !)) (look ! 16 refl)) (and-then ! (load ! (from ! (stop !)) (look ! 12 refl)) (no-more !))) (λ u r a is.
+        calls-new 𝓤 H A W κ q ! fm known-new s f (and-then ! (load ! (from ! (stop !)) (look ! 16 refl)) (and-then ! (load ! (from ! (stop !)) (look ! 12 refl)) (no-more !))) (λ u r a is.
         -- [what the cursor owns; its token; the rest; room for _8; …]
         land ! (from ! (stop !)) (init ! 7 refl is) $
-        calls-moved 𝓤 H A W mem run κ q ! fm known-moved n ok r u (and-then ! (load ! (from ! (stop !)) (look ! 6 refl)) (and-then ! (load ! (from ! (stop !)) (look ! 14 refl)) (no-more !))) (λ u′ r′ b is′.
+        calls-moved 𝓤 H A W κ q ! fm known-moved n ok r u (and-then ! (load ! (from ! (stop !)) (look ! 6 refl)) (and-then ! (load ! (from ! (stop !)) (look ! 14 refl)) (no-more !))) (λ u′ r′ b is′.
         land ! (from ! (stop !)) (init ! 9 refl is′) $
         -- the output, lent on
         assigns ! (addr ! (from ! (fld ! refl (hop ! (look-in ! 11 (sub ! 0 refl (whole !))) (stop !))))) (from ! (stop !)) (init ! 5 refl (tt, tt)) $
@@ -215,13 +219,13 @@ module _ {M : Type 1} (𝓤 : URA M) (H : Heap 𝓤) (A : Atoms 𝓤) (W : Given
         by ! (exits t u″ (zs .1 .0) (says-here r r′ t a b e) (holds-here r r′ (zs .1 .0) a b w) l)))))))))))))))))))
 
 module _ {M : Type 1} (𝓤 : URA M) (H : Heap 𝓤) (A : Atoms 𝓤) (W : Given 𝓤 H A) (mem : Memory → SProp 𝓤) (run : Routine → Fun 𝓤) where
-  string-at-walks : (C : Calls 𝓤 H) (Λ : Loops 𝓤 H) → FmC 𝓤 H (W .laws) C → Triple 𝓤 (C #new) (New 𝓤 H A mem run) → Triple 𝓤 (C #moved) (Moved 𝓤 H A mem run) → Triple 𝓤 (C #bytes) (Bytes 𝓤 H A mem run)
+  string-at-walks : (C : Calls 𝓤 H) (Λ : Loops 𝓤 H) → FmC 𝓤 H (W .laws) C → Triple 𝓤 (C #new) (New 𝓤 H A) → Triple 𝓤 (C #moved) (Moved 𝓤 H A) → Triple 𝓤 (C #bytes) (Bytes 𝓤 H A mem run)
       → Walks 𝓤 H A string-at.ended stayed (WpFn 𝓤 H C Λ code.function) (string-at.clauses 𝓤 H A mem run)
   string-at-walks C Λ fm known-new known-moved known-bytes = walked 𝓤 H A string-at.ended stayed (string-at.clauses 𝓤 H A mem run) (WpFn 𝓤 H C Λ code.function) (λ κs. (slice-vals, (uint-vals w64, (EL.vals F.the-type F′.the-laws, (slice-vals, tt))))) (λ κs. (shr-slice-tells (named 0) (κs .0) u8, (uint-tells w64, (EL.tells F.the-type F′.the-laws, (mut-slice-tells (named 1) (κs .1 .0) u8, tt)))))
       (λ κs qs bounds a g are. via 𝓤 _ (fst∗ 𝓤 _ (emp 𝓤)) (walk 𝓤 H A W mem run (κs .0) (κs .1 .0) (qs .0) (qs .1 .0) (a .0) (a .1 .0) (a .1 .1 .0) (a .1 .1 .1 .0) (are .1 .0 .1) (are .1 .1 .0) C Λ fm known-new known-moved known-bytes (are .0) (are .1 .1 .1 .0)))
 
 string-at-meets : {M : Type 1} (𝓤 : URA M) (H : Heap 𝓤) (A : Atoms 𝓤) (W : Given 𝓤 H A) (mem : Memory → SProp 𝓤) (run : Routine → Fun 𝓤) (𝓣 : Tables 𝓤 H)
-    → Triple 𝓤 (𝓣 .C #new) (New 𝓤 H A mem run) → Triple 𝓤 (𝓣 .C #moved) (Moved 𝓤 H A mem run) → Triple 𝓤 (𝓣 .C #bytes) (Bytes 𝓤 H A mem run)
+    → Triple 𝓤 (𝓣 .C #new) (New 𝓤 H A) → Triple 𝓤 (𝓣 .C #moved) (Moved 𝓤 H A) → Triple 𝓤 (𝓣 .C #bytes) (Bytes 𝓤 H A mem run)
     → Meets 𝓤 H A string-at.signature (WpFn 𝓤 H (𝓣 .C) (𝓣 .Λ) code.function) (string-at.spec 𝓤 H A mem run)
 string-at-meets 𝓤 H A W mem run 𝓣 known-new known-moved known-bytes =
     walk-meets 𝓤 H A string-at.ended stayed W (goes-none-slice 𝓤 H A W 2 (0 ∷ []) tt (plain (λ _. u8)) yes, (goes-none 𝓤 H A W 2 (λ _. usize) yes (λ κs x f. refl), (goes-none 𝓤 H A W 2 (λ _. F.the-row) yes (λ κs x f. refl), (goes-gave-slice 𝓤 H A W 2 1 tt (plain (λ _. u8)), tt)))) (string-at.clauses 𝓤 H A mem run)
@@ -233,5 +237,6 @@ string-at-spec 𝓤 H 𝓜 𝓖 𝓡 =
     entered 𝓤 H (tripleOf 𝓤 H (𝓖 .A) string-at.signature (string-at.spec 𝓤 H (𝓖 .A) (𝓜 .mem) (𝓡 .run)))
     (tables 𝓤 H 𝓜 𝓡 code.env .C) (tables 𝓤 H 𝓜 𝓡 code.env .Λ) #lookup·string-at code.function (code.unfolded 𝓤 H 𝓜 𝓡)
     (string-at-meets 𝓤 H (𝓖 .A) (givenOf 𝓤 H 𝓜 𝓖) (𝓜 .mem) (𝓡 .run) (tablesOf 𝓤 H 𝓜 (tables 𝓤 H 𝓜 𝓡 code.env))
-    (new-known 𝓤 H 𝓜 𝓖 𝓡 code.env code.calls-cursor·YsonIterator·new) (moved-known 𝓤 H 𝓜 𝓖 𝓡 code.env code.calls-cursor·YsonIterator·moved)
+    (cited 𝓤 H (New 𝓤 H (𝓖 .A)) 𝓜 𝓡 code.env #new new-def.routine code.calls-cursor·YsonIterator·new (new-thm.met 𝓤 H 𝓜 𝓖 𝓡))
+    (cited 𝓤 H (Moved 𝓤 H (𝓖 .A)) 𝓜 𝓡 code.env #moved moved-def.routine code.calls-cursor·YsonIterator·moved (moved-thm.met 𝓤 H 𝓜 𝓖 𝓡))
     (cited 𝓤 H (Bytes 𝓤 H (𝓖 .A) (𝓜 .mem) (𝓡 .run)) 𝓜 𝓡 code.env #bytes bytes-def.routine code.calls-cursor·YsonIterator·string-bytes (bytes-thm.met 𝓤 H 𝓜 𝓖 𝓡)))

@@ -12,6 +12,8 @@ use Rattle.token.proofs.Read as S
 use Rattle.token.proofs.Read.Laws as S′
 use Rattle.lexer.specs.Lexer.{tokenAt}
 use Rattle.cursor.proofs.At.{at-meets}
+use Rattle.cursor.proofs.YsonIterator.new.Met as new-thm
+use Rattle.cursor.proofs.YsonIterator.moved.Met as moved-thm
 use Rattle.cursor.proofs.YsonIterator.next_token.Symbol as method
 use Rattle.cursor.proofs.YsonIterator.next_token.Met as method-thm
 use Rattle.lookup.proofs.token_at.Key.{name as #lookup·token-at}
@@ -26,4 +28,5 @@ pub token-at-spec : {M : Type 1} → stated.statement M
 unfolding code.routine
 token-at-spec 𝓤 H 𝓜 𝓖 𝓡 =
     at-meets method.name S′.mir S.the-row Says 𝓤 H 𝓜 𝓖 𝓡 code.env (λ r u is. EL.lawful S.the-type S′.the-laws 𝓤 H (𝓖 .A) (givenOf 𝓤 H 𝓜 𝓖) tt .typed r _ is .0)
-    code.calls-cursor·YsonIterator·new code.calls-cursor·YsonIterator·moved method.routine code.calls-cursor·YsonIterator·next-token (method-thm.met 𝓤 H 𝓜 𝓖 𝓡) #lookup·token-at (code.unfolded 𝓤 H 𝓜 𝓡)
+    code.calls-cursor·YsonIterator·new (new-thm.met 𝓤 H 𝓜 𝓖 𝓡) code.calls-cursor·YsonIterator·moved (moved-thm.met 𝓤 H 𝓜 𝓖 𝓡)
+    method.routine code.calls-cursor·YsonIterator·next-token (method-thm.met 𝓤 H 𝓜 𝓖 𝓡) #lookup·token-at (code.unfolded 𝓤 H 𝓜 𝓡)

@@ -9,6 +9,8 @@ use denote.Builtin.{usize}
 use denote.Ref.{RefT}
 use Rattle.refusal.specs.declared.Format.{Format}
 use Rattle.cursor.proofs.At.{at-meets}
+use Rattle.cursor.proofs.YsonIterator.new.Met as new-thm
+use Rattle.cursor.proofs.YsonIterator.moved.Met as moved-thm
 use Rattle.cursor.proofs.YsonIterator.pos.Symbol as method
 use Rattle.cursor.proofs.YsonIterator.pos.Met as method-thm
 use Rattle.worked.proofs.tokens.standing.Key.{name as #worked·standing}
@@ -23,4 +25,5 @@ pub standing-spec : {M : Type 1} → stated.statement M
 unfolding code.routine
 standing-spec 𝓤 H 𝓜 𝓖 𝓡 =
     at-meets method.name (tyInt w64) usize Says 𝓤 H 𝓜 𝓖 𝓡 code.env (λ r u is. uint-lawful 𝓤 H (𝓖 .A) (givenOf 𝓤 H 𝓜 𝓖) w64 .typed r _ is .0)
-    code.calls-cursor·YsonIterator·new code.calls-cursor·YsonIterator·moved method.routine code.calls-cursor·YsonIterator·pos (method-thm.met 𝓤 H 𝓜 𝓖 𝓡) #worked·standing (code.unfolded 𝓤 H 𝓜 𝓡)
+    code.calls-cursor·YsonIterator·new (new-thm.met 𝓤 H 𝓜 𝓖 𝓡) code.calls-cursor·YsonIterator·moved (moved-thm.met 𝓤 H 𝓜 𝓖 𝓡)
+    method.routine code.calls-cursor·YsonIterator·pos (method-thm.met 𝓤 H 𝓜 𝓖 𝓡) #worked·standing (code.unfolded 𝓤 H 𝓜 𝓡)
