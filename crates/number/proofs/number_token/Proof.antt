@@ -1,15 +1,16 @@
 -- `number_token` meets its contract: the part that it judges is the text of the number. Assumes nothing.
 use mathlib.Core.Path.{_≡_, sym, ap, _∙_}
-use mathlib.Core.Bool.{false}
+use mathlib.Core.Bool.{Bool, true, false}
 use mathlib.Core.List.{List}
 use mathlib.Core.Logic.{⊎-elim}
-use Prim.Native.Nat.{ℕ, _+_, _≤_, _<_}
+use Prim.Native.Nat.{ℕ, _+_, _-_, _≤_, _<_}
 use native.Mathlib.Omega.{arith}
 use borrow.Author.Tests.{eq-eqb, ne-eqb}
 use denote.Ref.{now}
-use lib.ListN.{length, drop}
-use Rattle.number.specs.Bytes.{isPointed, isUnsigned, starts, any}
-use Rattle.number.specs.Number.{uint64Text, doubleText, int64Text}
+use lib.ListN.{length, take, drop}
+use Rattle.number.specs.Bytes.{isText, isPointed, isUnsigned, starts, any}
+use Rattle.number.specs.Grammar.{front}
+use Rattle.number.specs.Number.{numberAt, uint64Text, doubleText, int64Text}
 use Rattle.number.proofs.Ends.{starts-at, starts-out}
 use Rattle.number.proofs.Tokens.{beyond, ended, text-part, text-uint, text-double, text-int}
 use borrow.Author.Needs.{needs}
@@ -68,6 +69,35 @@ part-has-point-end c = search needs
 has-point-requires : tie.Need-has-point-requires
 has-point-requires c κs = search needs
 
+-- behind the test for a point: the part is the text, which ends at `end`, and no `u` stands behind it
+module _ (d : tie.After-has-point) where
+  abbrev bytes : List ℕ
+  bytes = now (d .before .before .before .before .before .before .before .args .input)
+
+  abbrev place : ℕ
+  place = d .before .before .before .before .before .before .before .args .at
+
+  abbrev end : ℕ
+  end = d .before .before .before .text-end .result
+
+  high : end ≤ length bytes
+  high = omega (arith, d .before .before .before .text-end .ensures .high)
+
+  part : take (end - place) (drop place bytes) ≡ front isText (drop place bytes)
+  part = text-part bytes place (omega arith) end (d .before .before .before .text-end .ensures .low) high (d .before .before .before .text-end .ensures .rest)
+
+  bare : starts isUnsigned (drop end bytes) ≡ false
+  bare = ⊎-elim (λ w. starts-at bytes end (w .0 .taken) isUnsigned ∙ ne-eqb _ _ (w .2 .left)) (λ w. starts-out bytes end (w .left) isUnsigned) (d .before .before .if3 .came)
+
+  pointed : {b : Bool} → d .has-point .result ≡ b → any isPointed (front isText (drop place bytes)) ≡ b
+  pointed e = ap (any isPointed) (sym part) ∙ sym (d .has-point .ensures) ∙ e
+
+  is-double : d .has-point .result ≡ true → doubleText place end (take (end - place) (drop place bytes)) ≡ numberAt bytes place
+  is-double e = ap (doubleText place end) part ∙ text-double bytes place (omega arith) end (d .before .before .before .text-end .ensures .low) high (d .before .before .before .text-end .ensures .rest) bare (pointed e)
+
+  is-int : d .has-point .result ≡ false → int64Text place end (take (end - place) (drop place bytes)) ≡ numberAt bytes place
+  is-int e = ap (int64Text place end) part ∙ text-int bytes place (omega arith) end (d .before .before .before .text-end .ensures .low) high (d .before .before .before .text-end .ensures .rest) bare (pointed e)
+
 sub-double-token : tie.Need-sub-double-token
 sub-double-token c = search needs
 
@@ -81,19 +111,7 @@ double-token-requires : tie.Need-double-token-requires
 double-token-requires c κs = search needs
 
 returns-4 : tie.Need-returns-4
-returns-4 c =
-    let s = now (c .before .before .before .before .before .before .before .before .before .before .args .input) in
-    let at = c .before .before .before .before .before .before .before .before .before .before .args .at in
-    let e = c .before .before .before .before .before .before .text-end .result in
-    let h : at < length s = omega arith in
-    let low : at ≤ e = c .before .before .before .before .before .before .text-end .ensures .low in
-    let high : e ≤ length s = omega (arith, c .before .before .before .before .before .before .text-end .ensures .high) in
-    let r = c .before .before .before .before .before .before .text-end .ensures .rest in
-    let part = text-part s at h e low high r in
-    let u : starts isUnsigned (drop e s) ≡ false = ⊎-elim (λ w. starts-at s e (w .0 .taken) isUnsigned ∙ ne-eqb _ _ (w .2 .left)) (λ w. starts-out s e (w .left) isUnsigned) (c .before .before .before .before .before .if3 .came) in
-    c .double-token .ensures
-    ∙ ap (doubleText at e) part
-    ∙ text-double s at h e low high r u (ap (any isPointed) (sym part) ∙ sym (c .before .before .before .has-point .ensures) ∙ c .before .before .if5 .taken)
+returns-4 c = c .double-token .ensures ∙ is-double (c .before .before .before) (c .before .before .if5 .taken)
 
 sub-int-token : tie.Need-sub-int-token
 sub-int-token c = search needs
@@ -108,19 +126,7 @@ int-token-requires : tie.Need-int-token-requires
 int-token-requires c κs = search needs
 
 returns-5 : tie.Need-returns-5
-returns-5 c =
-    let s = now (c .before .before .before .before .before .before .before .before .before .before .args .input) in
-    let at = c .before .before .before .before .before .before .before .before .before .before .args .at in
-    let e = c .before .before .before .before .before .before .text-end .result in
-    let h : at < length s = omega arith in
-    let low : at ≤ e = c .before .before .before .before .before .before .text-end .ensures .low in
-    let high : e ≤ length s = omega (arith, c .before .before .before .before .before .before .text-end .ensures .high) in
-    let r = c .before .before .before .before .before .before .text-end .ensures .rest in
-    let part = text-part s at h e low high r in
-    let u : starts isUnsigned (drop e s) ≡ false = ⊎-elim (λ w. starts-at s e (w .0 .taken) isUnsigned ∙ ne-eqb _ _ (w .2 .left)) (λ w. starts-out s e (w .left) isUnsigned) (c .before .before .before .before .before .if3 .came) in
-    c .int-token .ensures
-    ∙ ap (int64Text at e) part
-    ∙ text-int s at h e low high r u (ap (any isPointed) (sym part) ∙ sym (c .before .before .before .has-point .ensures) ∙ c .before .before .if5 .left)
+returns-5 c = c .int-token .ensures ∙ is-int (c .before .before .before) (c .before .before .if5 .left)
 
 pub number-token-spec : {M : Type 1} → statement M
 number-token-spec =
