@@ -15,7 +15,7 @@ use std::{
 };
 
 use corpora::{all, Corpus};
-use onionsail::Format;
+use onionsail::{scan, Format, Scan};
 use oracle::framing::{JobError, JobReader};
 
 const USAGE: &str = "\
@@ -147,7 +147,7 @@ fn measure(
     println!("the reader beside the framing, deliveries of {N} bytes");
     for corpus in all() {
         if corpus.format == Format::Binary {
-            let bytes = &corpus.bytes[..last_separator(&corpus.bytes[..N])];
+            let bytes = records_within(&corpus, N);
             let (new, old) = delivered(folder, rounds, bytes, N, deliveries)?;
             println!("{:24} {:5.2}", corpus.name, ratio(new, old));
         }
@@ -155,20 +155,22 @@ fn measure(
     println!("the reader, time per byte of one stream of 1 KB, 8 KB, 64 KB, 512 KB, 4 MB and 64 MB, to that of 64 MB");
     for corpus in all() {
         if corpus.format == Format::Binary {
-            let rows = [1 << 10, 8 << 10, N, 8 * N, 64 * N, FILE].map(|length| {
-                let bytes = corpus.bytes[..last_separator(&corpus.bytes[..length.min(N)])].to_vec();
-                let times = (length / N).max(1) as u32;
-                let units = bytes.len() * times as usize;
-                Row {
-                    bytes,
-                    times,
-                    units,
-                }
-            });
-            if rows.iter().all(|row| !row.bytes.is_empty()) {
-                let times = by_turns(folder, rounds, &rows, deliveries)?;
-                println!("{:24} {}", corpus.name, to_last(&times));
-            }
+            let rows: Vec<Row> = [1 << 10, 8 << 10, N, 8 * N, 64 * N, FILE]
+                .iter()
+                .map(|length| {
+                    let bytes = records_within(&corpus, N.min(*length)).to_vec();
+                    let times = (length / N).max(1) as u32;
+                    let units = bytes.len() * times as usize;
+                    Row {
+                        bytes,
+                        times,
+                        units,
+                    }
+                })
+                .filter(|row| row.units > 0)
+                .collect();
+            let times = by_turns(folder, rounds, &rows, deliveries)?;
+            println!("{:24} {}", corpus.name, to_last(&times));
         }
     }
     println!("the reader, time per token at depths 1, 16, 64 and 128, to that at 128");
@@ -222,11 +224,16 @@ fn nested(depth: usize) -> (Vec<u8>, usize) {
     (bytes, tokens)
 }
 
-fn last_separator(bytes: &[u8]) -> usize {
-    bytes
-        .iter()
-        .rposition(|byte| *byte == b';')
-        .map_or(0, |at| at + 1)
+/// The first records of a corpus, each with its separator, as many as take at most so many bytes.
+fn records_within(corpus: &Corpus, length: usize) -> &[u8] {
+    let mut end = 0;
+    while let Ok(Scan::Complete { len }) = scan(corpus.format, &corpus.bytes[end..]) {
+        if end + len + 1 > length {
+            break;
+        }
+        end += len + 1;
+    }
+    &corpus.bytes[..end]
 }
 
 /// A list of integers, strings and maps that takes exactly N bytes.
@@ -246,7 +253,7 @@ fn repeated(corpus: &Corpus, length: usize) -> Vec<u8> {
         bytes.extend_from_slice(&corpus.bytes);
     }
     if bytes.is_empty() {
-        bytes.extend_from_slice(&corpus.bytes[..last_separator(&corpus.bytes[..length])]);
+        bytes.extend_from_slice(records_within(corpus, length));
     }
     bytes
 }
