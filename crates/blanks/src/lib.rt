@@ -89,13 +89,17 @@ pub fn skip_ignored(input: &[u8], at: usize) -> usize
     p
 }
 
-// As `skip_ignored`, which is asked at a `/` alone: for callers that mostly stand at a token, or a few blanks before one.
+// As `skip_ignored`, which is asked at a `/` alone: for callers that mostly stand at a token, or a few blanks before one. Most
+// tokens start above `/`, so that is tested first.
 pub fn first_place(input: &[u8], at: usize) -> usize
     ensures { λ r. ⌜ r ≡ skipFrom (now (input .entry)) at ⌝ }
 {
     let mut p = at;
     while p < input.len() {
         let a = input[p];
+        if b'/' < a {
+            return p;
+        }
         if a == b' ' {
             p += 1;
         } else {

@@ -8,6 +8,7 @@ ghost use mathlib.Core.Logic.{_⊎_};
 ghost use Prim.Native.Nat.{_≤_, _<_};
 ghost use lib.ListN.{length};
 ghost use Rattle.refusal.specs.declared.Format.the-variants.{Binary, Text};
+ghost use Rattle.token.specs.Ends.{stringEnd, scalarEnd};
 ghost use Rattle.lexer.specs.Lexer.{kindAt, skipOf};
 ghost use Rattle.scan.specs.Limit.{mostOpen};
 ghost use Rattle.scan.specs.Walk.{scanOf};
@@ -276,13 +277,45 @@ fn past_flat(input: &[u8], from: usize) -> usize
     }
 }
 
+// The place after the key at a place of a text; 0 where no whole string stands there. Most keys are unquoted, and a letter there
+// needs no look for blanks.
+fn key_end(input: &[u8], at: usize) -> usize
+    ensures { λ r. ⌜ r ≡ stringEnd (kindAt Text (now (input .entry)) at) ⌝ }
+{
+    if at < input.len() {
+        if words::is_letter(input[at]) {
+            return words::plain_end(input, at);
+        }
+    }
+    let p = lexer::skip(input, at, Format::Text);
+    if p < input.len() {
+        if words::is_letter(input[p]) {
+            return words::plain_end(input, p);
+        }
+    }
+    lexer::string_end(input, p, Format::Text)
+}
+
+// The place after the scalar at a place of a text; 0 where no whole one stands there. Most are quoted.
+fn value_end(input: &[u8], at: usize) -> usize
+    ensures { λ r. ⌜ r ≡ scalarEnd (kindAt Text (now (input .entry)) at) ⌝ }
+{
+    let p = lexer::skip(input, at, Format::Text);
+    if p < input.len() {
+        if input[p] == b'"' {
+            return quoted::quoted_end(input, p);
+        }
+    }
+    lexer::scalar_end(input, p, Format::Text)
+}
+
 // The same in text, where a key may be long and blanks and comments may stand between.
 fn past_text(input: &[u8], from: usize) -> usize
     ensures { λ r. ⌜ Along Text (now (input .entry)) from r ⌝ }
 {
     let mut at = from;
     loop {
-        let key = lexer::string_end(input, at, Format::Text);
+        let key = key_end(input, at);
         if key == 0 {
             return at;
         }
@@ -293,7 +326,7 @@ fn past_text(input: &[u8], from: usize) -> usize
         if input[p] != b'=' {
             return at;
         }
-        let end = lexer::scalar_end(input, p + 1, Format::Text);
+        let end = value_end(input, p + 1);
         if end == 0 {
             return at;
         }

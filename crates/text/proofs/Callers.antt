@@ -1,5 +1,5 @@
 -- What a caller may rely on: a token starts where the ignored bytes end, ends behind that place and within the bytes, and a refusal
--- carries that place. Assumes nothing.
+-- carries that place; a letter or a quote there tells where the string ends. Assumes nothing.
 use mathlib.Core.Path.{_≡_, refl, sym, ap, _∙_}
 use mathlib.Core.Logic.{_⊎_, inl, inr, ⊎-elim}
 use mathlib.Core.Bool.{Bool, true, false, _||_}
@@ -12,19 +12,23 @@ use Rattle.refusal.specs.Numbers.{badByte, beyondSlice, badHexEscape, badUint64
 use Rattle.refusal.specs.Paper.{Paper, gives, more, refused, Spot, spot, pick}
 use Rattle.refusal.proofs.Cases.{either}
 use Rattle.token.specs.declared.Token.{Token}
+use Rattle.token.specs.Meaning.{kindsOf}
+use Rattle.token.specs.Ends.{endOf, stringEnd, scalarEnd}
 use Rattle.token.specs.Marks.{markOf, ofMark}
 use Rattle.token.proofs.Sound.{Sound, pick-sound, mark-sound}
 use Rattle.blanks.specs.Skip.{skipFrom}
+use Rattle.blanks.proofs.Laws.{skip-here}
+use Rattle.blanks.proofs.Ways.{blank-above}
 use Rattle.pieces.specs.Bytes.{quote}
 use Rattle.quoted.specs.Quoted.{quotedAt}
 use Rattle.quoted.proofs.Laws.{quoted-gives, quoted-refuses}
 use Rattle.number.specs.Number.{numberAt}
 use Rattle.number.proofs.Laws.{number-lies, number-refused, NoNumber, outside, bad, BadNumber, bad-uint64, bad-double, bad-int64}
-use Rattle.words.specs.Plain.{isLetter, isDigit, isPlain}
+use Rattle.words.specs.Plain.{isLetter, isDigit, isPlain, plainEnd}
 use Rattle.words.specs.Word.{wordAt}
 use Rattle.words.proofs.Laws as w
 use Rattle.text.specs.Text.{percent, startsNumber, startsPlain, plainAt, started, startedAt, textFrom}
-use Rattle.text.proofs.Laws.{nothing-started, something-started}
+use Rattle.text.proofs.Laws.{nothing-started, something-started, letter-starts, plain-above, plain-starts, is-quoted, quoted-scalar-end}
 
 module _ (s : List ℕ) (p : ℕ) (h : p < length s) where
   -- by what is known of a token, and of a refusal
@@ -95,3 +99,25 @@ unfolding textFrom
 sound s at =
     let p = skipFrom s at in
     ⊎-elim (λ h. rw (something-started s p h) (started-sound s p h)) (λ h. rw (nothing-started s p (omega arith)) tt) (either (suc p) (length s))
+
+-- ---- the end of a string by its first byte, which stands behind what is ignored
+
+module _ (s : List ℕ) (at p : ℕ) (e : p ≡ skipFrom s at) (h : p < length s) where
+  begins : textFrom s at ≡ started s p (getD s p 0)
+  unfolding textFrom
+  begins = ap (startedAt s) (sym e) ∙ something-started s p h
+
+  pub letter-ends : isLetter (getD s p 0) ≡ true → plainEnd s p ≡ stringEnd (kindsOf (textFrom s at))
+  unfolding plainAt
+  letter-ends l =
+      let t = letter-starts (getD s p 0) l in
+      sym (ap (λ (q : Paper (Spot Token)). stringEnd (kindsOf q)) (begins ∙ plain-starts s p (getD s p 0) (λ z. omega (arith, plain-above (getD s p 0) t)) t))
+
+  pub quote-ends : getD s p 0 ≡ quote → endOf (quotedAt s p) ≡ scalarEnd (kindsOf (textFrom s at))
+  quote-ends q = quoted-scalar-end s p ∙ sym (ap (λ (q : Paper (Spot Token)). scalarEnd (kindsOf q)) (begins ∙ is-quoted s p (getD s p 0) q))
+
+-- at a letter nothing is ignored
+pub letter-here : (s : List ℕ) (p : ℕ) → p < length s → isLetter (getD s p 0) ≡ true → p ≡ skipFrom s p
+letter-here s p h l =
+    let a = plain-above (getD s p 0) (letter-starts (getD s p 0) l) in
+    sym (skip-here s p h (blank-above (getD s p 0) (omega arith)) (λ z. omega arith))
