@@ -31,14 +31,15 @@ use denote.Struct.Values.{Values}
 use denote.Triple.Statement.{Triple}
 use denote.Triple.Entry.{Vals, onEntry}
 use denote.Triple.Table.{entered, cited}
-use denote.Triple.Walked.{says, Stays, stay-none, walkOf, goes-none, Walks, ends-at, walked, walk-meets}
+use denote.Triple.Walked.{Stays, stay-none, walkOf, goes-none, Walks, ends-at, walked, walk-meets}
 use denote.Exit.{yes}
-use denote.Triple.Clauses.{lasts}
+use denote.Triple.Clauses.{Clauses, atExit, lasts, closing}
+use denote.Triple.Spec.{tripleOf}
 use Rattle.refusal.proofs.Format as F
 use Rattle.refusal.proofs.Format.Laws as F′
 use Rattle.cursor.specs.declared.YsonIterator.{YsonIterator}
-use Rattle.cursor.proofs.Shapes.{B, slice-val, format-val, Spelled, Saying, at-place, of-cursor, of-cursor-clauses, AtPlace, OfCursor}
-use Rattle.cursor.proofs.Walks.{calls-told}
+use Rattle.cursor.proofs.Shapes.{B, slice-val, format-val, Spelled, Saying, at-place, of-cursor, AtPlace, TellsOfCursor}
+use Rattle.cursor.proofs.Walks.{tells, calls-told}
 use Rattle.cursor.proofs.YsonIterator as T
 use Rattle.cursor.proofs.YsonIterator.Laws as T′
 
@@ -64,9 +65,9 @@ L κs = T′.the-laws (namedLft 1 0 tt κs)
 abbrev stayed : (S : RattleType) → Stays (of-cursor S .signature .params) (of-cursor S .kept)
 stayed S = (stay-none B yes, tt)
 
-module _ (m : Name) (τ : Ty) (S : RattleType) (Says : Saying S) {M : Type 1} (𝓤 : URA M) (H : Heap 𝓤) where
+module _ (m : Name) (τ : Ty) (S : RattleType) (Says : Saying S) {M : Type 1} (𝓤 : URA M) (H : Heap 𝓤) (c : Clauses 𝓤 (of-cursor S)) (told : TellsOfCursor S Says 𝓤 c) where
   module _ (A : Atoms 𝓤) (W : Given 𝓤 H A) (wt : Spelled τ S) where
-    module _ (κ : Lft) (q : Share) (d : YsonIterator) where
+    module _ (κ : Lft) (q : Share) (d : YsonIterator) (g : c (κ, tt) (d, tt) .ghost) where
       abbrev κs : Lfts 1
       κs = (κ, tt)
 
@@ -81,7 +82,7 @@ module _ (m : Name) (τ : Ty) (S : RattleType) (Says : Saying S) {M : Type 1} (�
       fv = format-val (d .format)
 
       abbrev Post : Val → SProp 𝓤
-      Post = walkOf 𝓤 H A (of-cursor S) (stayed S) (of-cursor-clauses S Says 𝓤) .post ((κs, (q, tt), tt, (d, tt), (mach ∷ [], tt)), tt)
+      Post = walkOf 𝓤 H A (of-cursor S) (stayed S) c .post ((κs, (q, tt), tt, (d, tt), (mach ∷ [], tt)), g)
 
       abbrev Own : Fml
       Own = B κs .own d (mach ∷ [])
@@ -114,7 +115,7 @@ module _ (m : Name) (τ : Ty) (S : RattleType) (Says : Saying S) {M : Type 1} (�
       exits : (r : S .Denot) (u : Val) → Says (d .input) (d .pos) (d .format) r → ent 𝓤 (⋆ 𝓤 H A (‵ (S .own r (u ∷ [])) ∷ tok ∷ ‵ Own ∷ [])) (Post u)
       exits r u e =
           qed W (‵ (S .own r (u ∷ [])) ∷ tok ∷ ‵ Own ∷ []) ∵
-          suffices ! _ (ends-at 𝓤 H A (of-cursor S) (stayed S) (of-cursor-clauses S Says 𝓤) W ((κs, (q, tt), tt, (d, tt), (mach ∷ [], tt)), tt) u r (tt, tt) (tt, tt)) $ says ! e $
+          suffices ! _ (ends-at 𝓤 H A (of-cursor S) (stayed S) c W ((κs, (q, tt), tt, (d, tt), (mach ∷ [], tt)), g) u r (tt, tt) (tt, tt)) $ tells ! (told κs (d, tt) g r (atExit (of-cursor S) κs (d, tt) (tt, tt)) e) $
           move ! (1 ∷ []) $ frame ! $ nothing ! $ move ! (2 ∷ 0 ∷ []) $ fjoin ! $ frame ! $ done !
 
       module _ (C : Calls 𝓤 H) (Λ : Loops 𝓤 H) (fm : FmC 𝓤 H (W .laws) C) (known : Triple 𝓤 (C m) (AtPlace S Says 𝓤 H A)) where
@@ -134,18 +135,18 @@ module _ (m : Name) (τ : Ty) (S : RattleType) (Says : Saying S) {M : Type 1} (�
             returns ! (look ! 11 refl) $ forget ! 3 refl $ forget ! 5 refl $ forget ! 7 refl $ forget ! 9 refl $ forget ! 11 refl $
             move ! (11 ∷ 12 ∷ []) $ free1 ! $ move ! (9 ∷ 10 ∷ []) $ free1 ! $ move ! (7 ∷ 8 ∷ []) $ free1 ! $ move ! (5 ∷ 6 ∷ []) $ free1 ! $ move ! (3 ∷ 4 ∷ []) $ free1 ! $ free0 ! $ by ! (exits r u e)))))))
 
-    walks : (C : Calls 𝓤 H) (Λ : Loops 𝓤 H) → FmC 𝓤 H (W .laws) C → Triple 𝓤 (C m) (AtPlace S Says 𝓤 H A) → Walks 𝓤 H A (of-cursor S) (stayed S) (WpFn 𝓤 H C Λ (function m τ)) (of-cursor-clauses S Says 𝓤)
-    walks C Λ fm known = walked 𝓤 H A (of-cursor S) (stayed S) (of-cursor-clauses S Says 𝓤) (WpFn 𝓤 H C Λ (function m τ)) (λ κs. (LL.vals (D κs) (L κs), tt)) (λ κs. (LL.tells (D κs) (L κs), tt))
-        (λ κs qs bounds a g are. via 𝓤 _ (fst∗ 𝓤 _ (emp 𝓤)) (walk (κs .0) (qs .0) (a .0) C Λ fm known (LL.lawful (D κs) (L κs) 𝓤 H A W .typed (a .0) _ (are .0) .0) (EL.lawful F.the-type F′.the-laws 𝓤 H A W tt .typed (a .0 .format) _ (LL.owed (D κs) (L κs) (a .0) _ (are .0) .1 .1 .0) .0)))
+    walks : (C : Calls 𝓤 H) (Λ : Loops 𝓤 H) → FmC 𝓤 H (W .laws) C → Triple 𝓤 (C m) (AtPlace S Says 𝓤 H A) → Walks 𝓤 H A (of-cursor S) (stayed S) (WpFn 𝓤 H C Λ (function m τ)) c
+    walks C Λ fm known = walked 𝓤 H A (of-cursor S) (stayed S) c (WpFn 𝓤 H C Λ (function m τ)) (λ κs. (LL.vals (D κs) (L κs), tt)) (λ κs. (LL.tells (D κs) (L κs), tt))
+        (λ κs qs bounds a g are. via 𝓤 _ (fst∗ 𝓤 _ (c κs a .requires g)) (walk (κs .0) (qs .0) (a .0) g C Λ fm known (LL.lawful (D κs) (L κs) 𝓤 H A W .typed (a .0) _ (are .0) .0) (EL.lawful F.the-type F′.the-laws 𝓤 H A W tt .typed (a .0 .format) _ (LL.owed (D κs) (L κs) (a .0) _ (are .0) .1 .1 .0) .0)))
 
-    meets : (𝓣 : Tables 𝓤 H) → Triple 𝓤 (𝓣 .C m) (AtPlace S Says 𝓤 H A) → Triple 𝓤 (WpFn 𝓤 H (𝓣 .C) (𝓣 .Λ) (function m τ)) (OfCursor S Says 𝓤 H A)
-    meets 𝓣 known = walk-meets 𝓤 H A (of-cursor S) (stayed S) W (goes-none 𝓤 H A W 1 B yes (λ κs x f. refl), tt) (of-cursor-clauses S Says 𝓤) (WpFn 𝓤 H (𝓣 .C) (𝓣 .Λ) (function m τ)) (WpFn-mono 𝓤 H (W .laws) 𝓣 (function m τ)) (walks (𝓣 .C) (𝓣 .Λ) (fmOf 𝓤 H (W .laws) 𝓣) known)
+    meets : (𝓣 : Tables 𝓤 H) → Triple 𝓤 (𝓣 .C m) (AtPlace S Says 𝓤 H A) → Triple 𝓤 (WpFn 𝓤 H (𝓣 .C) (𝓣 .Λ) (function m τ)) (tripleOf 𝓤 H A (of-cursor S .signature) (closing 𝓤 H A (of-cursor S) c))
+    meets 𝓣 known = walk-meets 𝓤 H A (of-cursor S) (stayed S) W (goes-none 𝓤 H A W 1 B yes (λ κs x f. refl), tt) c (WpFn 𝓤 H (𝓣 .C) (𝓣 .Λ) (function m τ)) (WpFn-mono 𝓤 H (W .laws) 𝓣 (function m τ)) (walks (𝓣 .C) (𝓣 .Λ) (fmOf 𝓤 H (W .laws) 𝓣) known)
 
   -- the method that γ names k, where γ has the callee at its name
   pub apart-meets : (𝓜 : Model 𝓤 H) (𝓖 : GhostRules 𝓤 H) (𝓡 : Running 𝓤 H 𝓜) (γ : Env) → Spelled τ S
       → (callee : Routine) → γ m ≡ callee → Triple 𝓤 (𝓡 .run callee) (AtPlace S Says 𝓤 H (𝓖 .A))
-      → (k : Name) → Closed 𝓤 H (tables 𝓤 H 𝓜 𝓡 γ .C) (tables 𝓤 H 𝓜 𝓡 γ .Λ) k (function m τ) → Triple 𝓤 (tables 𝓤 H 𝓜 𝓡 γ .C k) (OfCursor S Says 𝓤 H (𝓖 .A))
+      → (k : Name) → Closed 𝓤 H (tables 𝓤 H 𝓜 𝓡 γ .C) (tables 𝓤 H 𝓜 𝓡 γ .Λ) k (function m τ) → Triple 𝓤 (tables 𝓤 H 𝓜 𝓡 γ .C k) (tripleOf 𝓤 H (𝓖 .A) (of-cursor S .signature) (closing 𝓤 H (𝓖 .A) (of-cursor S) c))
   unfolding tablesOf
   apart-meets 𝓜 𝓖 𝓡 γ wt callee is-callee met k closed =
-      entered 𝓤 H (OfCursor S Says 𝓤 H (𝓖 .A)) (tables 𝓤 H 𝓜 𝓡 γ .C) (tables 𝓤 H 𝓜 𝓡 γ .Λ) k (function m τ) closed
+      entered 𝓤 H (tripleOf 𝓤 H (𝓖 .A) (of-cursor S .signature) (closing 𝓤 H (𝓖 .A) (of-cursor S) c)) (tables 𝓤 H 𝓜 𝓡 γ .C) (tables 𝓤 H 𝓜 𝓡 γ .Λ) k (function m τ) closed
       (meets (𝓖 .A) (givenOf 𝓤 H 𝓜 𝓖) wt (tablesOf 𝓤 H 𝓜 (tables 𝓤 H 𝓜 𝓡 γ)) (cited 𝓤 H (AtPlace S Says 𝓤 H (𝓖 .A)) 𝓜 𝓡 γ m callee is-callee met))

@@ -29,16 +29,17 @@ use denote.Enum.Laws as EL
 use denote.Triple.Statement.{Triple}
 use denote.Triple.Entry.{Vals, onEntry}
 use denote.Triple.Table.{entered, cited}
-use denote.Triple.Walked.{says, Stays, stay-none, stay-none-slice, walkOf, goes-none, goes-none-slice, Walks, ends-at, walked, walk-meets}
+use denote.Triple.Walked.{Stays, stay-none, stay-none-slice, walkOf, goes-none, goes-none-slice, Walks, ends-at, walked, walk-meets}
 use denote.Exit.{yes}
-use denote.Triple.Clauses.{lasts}
+use denote.Triple.Clauses.{Clauses, atExit, lasts, closing}
+use denote.Triple.Spec.{tripleOf}
 use Rattle.refusal.specs.declared.Format.{Format}
 use Rattle.refusal.proofs.Format as F
 use Rattle.refusal.proofs.Format.Laws as F′
 use Rattle.cursor.specs.declared.YsonIterator.{YsonIterator}
 use Rattle.cursor.proofs.Placed.{placed, New, Moved, to-new, asked-new, calls-new, calls-moved}
-use Rattle.cursor.proofs.Shapes.{B, slice-val, format-val, Spelled, Saying, at-place, of-cursor, at-place-clauses, AtPlace, OfCursor}
-use Rattle.cursor.proofs.Walks.{calls-told}
+use Rattle.cursor.proofs.Shapes.{B, slice-val, format-val, Spelled, Saying, at-place, of-cursor, OfCursor, TellsAtPlace}
+use Rattle.cursor.proofs.Walks.{tells, calls-told}
 use Rattle.cursor.proofs.YsonIterator.Laws as T′
 use Rattle.cursor.proofs.YsonIterator.new.Symbol as new-def
 use Rattle.cursor.proofs.YsonIterator.moved.Symbol as moved-def
@@ -57,9 +58,9 @@ function m τ = record {
 abbrev stayed : (S : RattleType) → Stays (at-place S .signature .params) (at-place S .kept)
 stayed S = (stay-none-slice (0 ∷ []) tt (plain (λ _. u8)) yes, (stay-none (λ _. usize) yes, (stay-none (λ _. F.the-row) yes, tt)))
 
-module _ (m : Name) (τ : Ty) (S : RattleType) (Says : Saying S) {M : Type 1} (𝓤 : URA M) (H : Heap 𝓤) where
+module _ (m : Name) (τ : Ty) (S : RattleType) (Says : Saying S) {M : Type 1} (𝓤 : URA M) (H : Heap 𝓤) (c : Clauses 𝓤 (at-place S)) (told : TellsAtPlace S Says 𝓤 c) where
   module _ (A : Atoms 𝓤) (W : Given 𝓤 H A) (wt : Spelled τ S) where
-    module _ (κ : Lft) (q : Share) (s : RefT (List ℕ)) (n : ℕ) (f : Format) (ok : n < 2 ^ 64) (isf : Is F.the-row f (format-val f ∷ [])) where
+    module _ (κ : Lft) (q : Share) (s : RefT (List ℕ)) (n : ℕ) (f : Format) (g : c (κ, tt) (s, (n, (f, tt))) .ghost) (ok : n < 2 ^ 64) (isf : Is F.the-row f (format-val f ∷ [])) where
       abbrev κs : Lfts 1
       κs = (κ, tt)
 
@@ -71,7 +72,7 @@ module _ (m : Name) (τ : Ty) (S : RattleType) (Says : Saying S) {M : Type 1} (�
       at = (slice-val s ∷ [], (vint w64 n ∷ [], (format-val f ∷ [], tt)))
 
       abbrev Post : Val → SProp 𝓤
-      Post = walkOf 𝓤 H A (at-place S) (stayed S) (at-place-clauses S Says 𝓤) .post ((κs, (q, tt), tt, (s, (n, (f, tt))), at), tt)
+      Post = walkOf 𝓤 H A (at-place S) (stayed S) c .post ((κs, (q, tt), tt, (s, (n, (f, tt))), at), g)
 
       abbrev Own : Fml
       Own = ShrSlice (named 0) κ u8 .own s (slice-val s ∷ [])
@@ -101,7 +102,7 @@ module _ (m : Name) (τ : Ty) (S : RattleType) (Says : Saying S) {M : Type 1} (�
       exits : (t : S .Denot) (u : Val) → Says s n f t → ent 𝓤 (⋆ 𝓤 H A (‵ (S .own t (u ∷ [])) ∷ tok ∷ ‵ Keep ∷ [])) (Post u)
       exits t u e =
           qed W (‵ (S .own t (u ∷ [])) ∷ tok ∷ ‵ Keep ∷ []) ∵
-          suffices ! _ (ends-at 𝓤 H A (at-place S) (stayed S) (at-place-clauses S Says 𝓤) W ((κs, (q, tt), tt, (s, (n, (f, tt))), at), tt) u t (tt, (tt, (tt, tt))) (tt, (tt, (tt, tt)))) $ says ! e $
+          suffices ! _ (ends-at 𝓤 H A (at-place S) (stayed S) c W ((κs, (q, tt), tt, (s, (n, (f, tt))), at), g) u t (tt, (tt, (tt, tt))) (tt, (tt, (tt, tt)))) $ tells ! (told κs (s, (n, (f, tt))) g t (atExit (at-place S) κs (s, (n, (f, tt))) (tt, (tt, (tt, tt)))) e) $
           move ! (1 ∷ []) $ frame ! $ move ! (1 ∷ []) $ frame ! $ done !
 
       module _ (C : Calls 𝓤 H) (Λ : Loops 𝓤 H) (fm : FmC 𝓤 H (W .laws) C) (known-new : Triple 𝓤 (C new-def.name) (New 𝓤 H A)) (known-moved : Triple 𝓤 (C moved-def.name) (Moved 𝓤 H A)) (known : Triple 𝓤 (C m) (OfCursor S Says 𝓤 H A)) where
@@ -125,24 +126,24 @@ module _ (m : Name) (τ : Ty) (S : RattleType) (Says : Saying S) {M : Type 1} (�
             by ! (exits t u″ (placed (λ x k g. Says x k g t) s n f r r′ a b e)))))))))))
 
     walks : (C : Calls 𝓤 H) (Λ : Loops 𝓤 H) → FmC 𝓤 H (W .laws) C → Triple 𝓤 (C new-def.name) (New 𝓤 H A) → Triple 𝓤 (C moved-def.name) (Moved 𝓤 H A) → Triple 𝓤 (C m) (OfCursor S Says 𝓤 H A)
-        → Walks 𝓤 H A (at-place S) (stayed S) (WpFn 𝓤 H C Λ (function m τ)) (at-place-clauses S Says 𝓤)
+        → Walks 𝓤 H A (at-place S) (stayed S) (WpFn 𝓤 H C Λ (function m τ)) c
     walks C Λ fm known-new known-moved known =
-        walked 𝓤 H A (at-place S) (stayed S) (at-place-clauses S Says 𝓤) (WpFn 𝓤 H C Λ (function m τ)) (λ κs. (slice-vals, (uint-vals w64, (EL.vals F.the-type F′.the-laws, tt)))) (λ κs. (shr-slice-tells (named 0) (κs .0) u8, (uint-tells w64, (EL.tells F.the-type F′.the-laws, tt))))
-        (λ κs qs bounds a g are. via 𝓤 _ (fst∗ 𝓤 _ (emp 𝓤)) (walk (κs .0) (qs .0) (a .0) (a .1 .0) (a .1 .1 .0) (are .1 .0 .1) (are .1 .1 .0) C Λ fm known-new known-moved known (are .0)))
+        walked 𝓤 H A (at-place S) (stayed S) c (WpFn 𝓤 H C Λ (function m τ)) (λ κs. (slice-vals, (uint-vals w64, (EL.vals F.the-type F′.the-laws, tt)))) (λ κs. (shr-slice-tells (named 0) (κs .0) u8, (uint-tells w64, (EL.tells F.the-type F′.the-laws, tt))))
+        (λ κs qs bounds a g are. via 𝓤 _ (fst∗ 𝓤 _ (c κs a .requires g)) (walk (κs .0) (qs .0) (a .0) (a .1 .0) (a .1 .1 .0) g (are .1 .0 .1) (are .1 .1 .0) C Λ fm known-new known-moved known (are .0)))
 
-    meets : (𝓣 : Tables 𝓤 H) → Triple 𝓤 (𝓣 .C new-def.name) (New 𝓤 H A) → Triple 𝓤 (𝓣 .C moved-def.name) (Moved 𝓤 H A) → Triple 𝓤 (𝓣 .C m) (OfCursor S Says 𝓤 H A) → Triple 𝓤 (WpFn 𝓤 H (𝓣 .C) (𝓣 .Λ) (function m τ)) (AtPlace S Says 𝓤 H A)
+    meets : (𝓣 : Tables 𝓤 H) → Triple 𝓤 (𝓣 .C new-def.name) (New 𝓤 H A) → Triple 𝓤 (𝓣 .C moved-def.name) (Moved 𝓤 H A) → Triple 𝓤 (𝓣 .C m) (OfCursor S Says 𝓤 H A) → Triple 𝓤 (WpFn 𝓤 H (𝓣 .C) (𝓣 .Λ) (function m τ)) (tripleOf 𝓤 H A (at-place S .signature) (closing 𝓤 H A (at-place S) c))
     meets 𝓣 known-new known-moved known =
-        walk-meets 𝓤 H A (at-place S) (stayed S) W (goes-none-slice 𝓤 H A W 1 (0 ∷ []) tt (plain (λ _. u8)) yes, (goes-none 𝓤 H A W 1 (λ _. usize) yes (λ κs x f. refl), (goes-none 𝓤 H A W 1 (λ _. F.the-row) yes (λ κs x f. refl), tt))) (at-place-clauses S Says 𝓤)
+        walk-meets 𝓤 H A (at-place S) (stayed S) W (goes-none-slice 𝓤 H A W 1 (0 ∷ []) tt (plain (λ _. u8)) yes, (goes-none 𝓤 H A W 1 (λ _. usize) yes (λ κs x f. refl), (goes-none 𝓤 H A W 1 (λ _. F.the-row) yes (λ κs x f. refl), tt))) c
         (WpFn 𝓤 H (𝓣 .C) (𝓣 .Λ) (function m τ)) (WpFn-mono 𝓤 H (W .laws) 𝓣 (function m τ)) (walks (𝓣 .C) (𝓣 .Λ) (fmOf 𝓤 H (W .laws) 𝓣) known-new known-moved known)
 
   -- the function that γ names k, where γ has the three methods at their names
   pub at-meets : (𝓜 : Model 𝓤 H) (𝓖 : GhostRules 𝓤 H) (𝓡 : Running 𝓤 H 𝓜) (γ : Env) → Spelled τ S
       → γ new-def.name ≡ new-def.routine → Triple 𝓤 (𝓡 .run new-def.routine) (New 𝓤 H (𝓖 .A)) → γ moved-def.name ≡ moved-def.routine → Triple 𝓤 (𝓡 .run moved-def.routine) (Moved 𝓤 H (𝓖 .A))
       → (method : Routine) → γ m ≡ method → Triple 𝓤 (𝓡 .run method) (OfCursor S Says 𝓤 H (𝓖 .A))
-      → (k : Name) → Closed 𝓤 H (tables 𝓤 H 𝓜 𝓡 γ .C) (tables 𝓤 H 𝓜 𝓡 γ .Λ) k (function m τ) → Triple 𝓤 (tables 𝓤 H 𝓜 𝓡 γ .C k) (AtPlace S Says 𝓤 H (𝓖 .A))
+      → (k : Name) → Closed 𝓤 H (tables 𝓤 H 𝓜 𝓡 γ .C) (tables 𝓤 H 𝓜 𝓡 γ .Λ) k (function m τ) → Triple 𝓤 (tables 𝓤 H 𝓜 𝓡 γ .C k) (tripleOf 𝓤 H (𝓖 .A) (at-place S .signature) (closing 𝓤 H (𝓖 .A) (at-place S) c))
   unfolding tablesOf
   at-meets 𝓜 𝓖 𝓡 γ wt is-new met-new is-moved met-moved method is-method met k closed =
-      entered 𝓤 H (AtPlace S Says 𝓤 H (𝓖 .A)) (tables 𝓤 H 𝓜 𝓡 γ .C) (tables 𝓤 H 𝓜 𝓡 γ .Λ) k (function m τ) closed
+      entered 𝓤 H (tripleOf 𝓤 H (𝓖 .A) (at-place S .signature) (closing 𝓤 H (𝓖 .A) (at-place S) c)) (tables 𝓤 H 𝓜 𝓡 γ .C) (tables 𝓤 H 𝓜 𝓡 γ .Λ) k (function m τ) closed
       (meets (𝓖 .A) (givenOf 𝓤 H 𝓜 𝓖) wt (tablesOf 𝓤 H 𝓜 (tables 𝓤 H 𝓜 𝓡 γ))
       (cited 𝓤 H (New 𝓤 H (𝓖 .A)) 𝓜 𝓡 γ new-def.name new-def.routine is-new met-new)
       (cited 𝓤 H (Moved 𝓤 H (𝓖 .A)) 𝓜 𝓡 γ moved-def.name moved-def.routine is-moved met-moved)

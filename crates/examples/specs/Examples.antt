@@ -1,4 +1,5 @@
 -- The worked examples that document 01 marks P, in one table: what is asked of the definitions, and what they must say.
+use mathlib.Core.Path.{_≡_}
 use Prim.Native.Nat.{ℕ, _-_, _^_}
 use mathlib.Core.List.{List, [], _∷_, _++_}
 use lib.ListN.{replicate}
@@ -71,3 +72,8 @@ rows =
     -- /*/: Incomplete
     ∷ row (scan Text (0x2F ∷ 0x2A ∷ 0x2F ∷ [])) (length more)
     ∷ []
+
+-- each row holds: the definitions answer its question so
+abbrev pub Hold : List Row → Type 0
+Hold [] = Unit {0}
+Hold (r ∷ rs) = (answered (r .question) ≡ r .answer) × Hold rs
