@@ -8,11 +8,11 @@ use native.Mathlib.Omega.{arith}
 use lib.Bits.{bitAnd, bitOr, or-add-and, and-le-l, and-le-r}
 use mir.Val.{boolByte}
 use borrow.Author.Tests.{eq-eqb, ne-eqb, ltb-true, ltb-false}
-use lib.Dec.{leb, ltb}
+use lib.Dec.{eqb, leb, ltb}
 use native.Mathlib.Nat.{le-refl}
 use lib.ListN.{length, getD, drop, drop-of-length-le, length-drop}
 use lib.Seq.{drop-cons}
-use Rattle.search.specs.First.{first, firstFrom, isByte, noLetter, isJoint, isEdge}
+use Rattle.search.specs.First.{first, firstFrom, Before, isByte, isQuote, noLetter, isJoint, isEdge}
 
 -- the bytes from a place on: the one there, and those behind it
 pub drop-more : (s : List ℕ) (p : ℕ) → p < length s → drop p s ≡ getD s p 0 ∷ drop (p + 1) s
@@ -49,6 +49,19 @@ again f h t s p i l r q e =
   where
     place : p + (i + 1) ≡ p + i + 1
     place = omega arith
+
+-- the same with quotes and backslashes marked each by itself
+pub again-both :
+    (h k : ℕ) (s : List ℕ) (p i : ℕ) → p + i < length s → (h ≡ 0 → k ≡ 0 → firstFrom isQuote s (p + i) ≡ firstFrom isQuote s p)
+    → bitOr h (boolByte (eqb (getD s (p + i) 0) 34)) ≡ 0 → bitOr k (boolByte (eqb (getD s (p + i) 0) 92)) ≡ 0
+    → firstFrom isQuote s (p + (i + 1)) ≡ firstFrom isQuote s p
+unfolding isQuote
+again-both h k s p i l q e g =
+    again isQuote 0 false s p i l (sym (none (eqb (getD s (p + i) 0) 34) (eqb (getD s (p + i) 0) 92) (mark-none h (eqb (getD s (p + i) 0) 34) e .1) (mark-none k (eqb (getD s (p + i) 0) 92) g .1))) (λ z. q (mark-none h (eqb (getD s (p + i) 0) 34) e .0) (mark-none k (eqb (getD s (p + i) 0) 92) g .0)) refl
+  where
+    none : (t u : Bool) → t ≡ false → u ≡ false → (t || u) ≡ false
+    none true u d f = d
+    none false u d f = f
 
 -- the place found is not before the place of the start
 first-ge : (f : ℕ → Bool) (p : ℕ) (l : List ℕ) → p ≤ first f p l
@@ -155,3 +168,21 @@ module _ (s : List ℕ) (p q : ℕ) (e : q ≡ firstFrom noLetter s p) (h : q < 
 
   pub edge-more : isJoint (getD s q 0) ≡ true → firstFrom isEdge s (q + 1) ≡ firstFrom isEdge s p
   edge-more j = first-more isEdge s q h (other-edge _ other ∙ ap not j) ∙ jumped
+
+-- ---- what stands before the first, of eight bytes and of those behind them
+module _ (f : ℕ → Bool) (s : List ℕ) (p q n a rest r : ℕ) (next : q ≡ p + 8) (x : Before f s p 8 a) (y : Before f s q n rest) (near : a < 8 → r ≡ a) (far : a ≡ 8 → r ≡ 8 + rest) where
+  in-8 : (t : Bool) → ltb a 8 ≡ t → Before f s p (8 + n) r
+  in-8 true e =
+      let l : a < 8 = ltb-true a 8 e in
+      let i : r ≡ a = near l in
+      (λ h. ap (λ (k : ℕ). p + k) i ∙ x .0 l, λ h. absurd (omega arith), omega arith)
+  in-8 false e =
+      let l : a ≡ 8 = omega (arith, ltb-false a 8 e, x .2) in
+      let i : r ≡ 8 + rest = far l in
+      let none : firstFrom f s q ≡ firstFrom f s p = ap (firstFrom f s) next ∙ x .1 l in
+      let here : p + r ≡ q + rest = omega arith in
+      let end : p + (8 + n) ≡ q + n = omega arith in
+      (λ h. here ∙ y .0 (omega arith) ∙ none, λ h. ap (firstFrom f s) end ∙ y .1 (omega arith) ∙ none, omega (arith, y .2))
+
+  pub before-join : Before f s p (8 + n) r
+  before-join = in-8 (ltb a 8) refl

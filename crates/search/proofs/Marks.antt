@@ -7,7 +7,9 @@ use native.Mathlib.Nat.{add-zero}
 use native.Mathlib.Omega.{arith}
 use lib.Count.{trailingZeros}
 use lib.ListN.{length, getD}
-use Rattle.search.specs.First.{first, firstFrom}
+use lib.Dec.{eqb}
+use borrow.Author.Tests.{eqb-true, eqb-false}
+use Rattle.search.specs.First.{first, firstFrom, Before}
 use Rattle.word.specs.Word.{marksAt}
 use Rattle.word.proofs.Marks.{plus, bitsOf, zeros-none, zeros-mark}
 use Rattle.search.proofs.Laws.{first-here, first-more}
@@ -63,3 +65,12 @@ module _ (f : ℕ → Bool) (s : List ℕ) (p m : ℕ) (h : p + 8 ≤ length s) 
 
   pub word-lt : (m ≡ 0 → ⊥) → (k : ℕ) → k ≡ trailingZeros 64 m / 8 → k < 8
   word-lt n k t = rw (t, e) (marks-lt f s 8 p (λ z. n (e ∙ z)))
+
+  -- what stands before the first of the eight
+  pub word-before : (k : ℕ) → k ≡ trailingZeros 64 m / 8 → Before f s p 8 k
+  unfolding trailingZeros
+  word-before k t = go (eqb m 0) refl
+    where
+      go : (q : Bool) → eqb m 0 ≡ q → Before f s p 8 k
+      go true z = let none : m ≡ 0 = eqb-true _ _ z in let all : k ≡ 8 = t ∙ ap (λ (x : ℕ). trailingZeros 64 x / 8) none in (λ h. absurd (omega arith), λ h. word-none none, omega arith)
+      go false z = let some : m ≡ 0 → ⊥ = eqb-false _ _ z in (λ h. word-some some k t, λ h. absurd (omega (arith, word-lt some k t)), omega (arith, word-lt some k t))

@@ -1,5 +1,6 @@
 -- The first byte of a kind, byte by byte, and the kinds that are looked for.
-use Prim.Native.Nat.{ℕ, _+_}
+use mathlib.Core.Path.{_≡_}
+use Prim.Native.Nat.{ℕ, _+_, _<_, _≤_}
 use mathlib.Core.Bool.{Bool, true, false, cond, not, _||_, _&&_}
 use mathlib.Core.List.{List, [], _∷_}
 use lib.Dec.{eqb, leb}
@@ -12,6 +13,10 @@ first f p (b ∷ l) = cond (f b) p (first f (p + 1) l)
 
 unfoldable pub firstFrom : (ℕ → Bool) → List ℕ → ℕ → ℕ
 firstFrom f s p = first f p (drop p s)
+
+-- of n bytes from the place p on r stand before the first for which f holds; all n where it holds of none
+abbrev pub Before : (ℕ → Bool) → List ℕ → ℕ → ℕ → ℕ → Type 0
+Before f s p n r = (r < n → p + r ≡ firstFrom f s p) × (r ≡ n → firstFrom f s (p + n) ≡ firstFrom f s p) × (r ≤ n)
 
 -- one byte
 unfoldable pub isByte : ℕ → ℕ → Bool

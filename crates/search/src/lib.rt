@@ -2,10 +2,10 @@
 // byte. Here eight bytes are read as one number, and long runs are passed by blocks of 32 bytes; specs/Word.antt of crate `word` says how
 // such a number marks its bytes.
 ghost use mathlib.Core.Path.{_≡_};
-ghost use Prim.Native.Nat.{_+_, _≤_};
+ghost use Prim.Native.Nat.{_+_, _≤_, _<_};
 ghost use lib.ListN.{length};
 ghost use lib.Bits.{bitAnd, bitOr};
-ghost use Rattle.search.specs.First.{firstFrom, isByte, isQuote, isOther, noLetter, isJoint, isEdge};
+ghost use Rattle.search.specs.First.{firstFrom, Before, isByte, isQuote, isOther, noLetter, isJoint, isEdge};
 ghost use Rattle.word.specs.Word.{marksAt};
 
 // The top bit of each byte that is not 0; the other bits say nothing.
@@ -64,18 +64,21 @@ fn is_quote(b: u8) -> bool
     (b == 34) | (b == 92)
 }
 
-// 0 if none of the 32 bytes from `p` on is a quote or a backslash.
+// 0 if none of the 32 bytes from `p` on is a quote or a backslash. Each is counted by itself, so that 16 bytes are compared at once.
 fn quote_in_32(s: &[u8], p: usize) -> u8
     requires { ⌜ p + 32 ≤ length (now s) ⌝ }
     ensures { λ r. ⌜ (r ≡ 0 → firstFrom isQuote (now (s .entry)) (p + 32) ≡ firstFrom isQuote (now (s .entry)) p) ⌝ }
 {
-    let mut h: u8 = 0;
+    let mut quotes: u8 = 0;
+    let mut backslashes: u8 = 0;
     let mut i: usize = 0;
     while i < 32 {
-        h = h | is_quote(s[p + i]) as u8;
+        let b = s[p + i];
+        quotes = quotes | (b == 34) as u8;
+        backslashes = backslashes | (b == 92) as u8;
         i += 1;
     }
-    h
+    quotes | backslashes
 }
 
 // A place from `at` on, behind blocks of 32 bytes that hold no quote and no backslash.
@@ -150,8 +153,8 @@ fn byte_bytes(s: &[u8], at: usize, b: u8) -> usize
     p
 }
 
-// The first place from `at` on with the byte `b`, or the end; `at` itself where it lies beyond the slice.
-pub fn find_byte(s: &[u8], at: usize, b: u8) -> usize
+// As `find_byte`, by words of eight bytes.
+fn byte_words(s: &[u8], at: usize, b: u8) -> usize
     ensures { λ r. ⌜ r ≡ firstFrom (isByte b) (now (s .entry)) at ⌝ }
 {
     if s.len() < 8 {
@@ -167,6 +170,74 @@ pub fn find_byte(s: &[u8], at: usize, b: u8) -> usize
         p += 8;
     }
     byte_bytes(s, p, b)
+}
+
+// 0 if none of the 32 bytes from `p` on is `b`.
+fn byte_in_32(s: &[u8], p: usize, b: u8) -> u8
+    requires { ⌜ p + 32 ≤ length (now s) ⌝ }
+    ensures { λ r. ⌜ (r ≡ 0 → firstFrom (isByte b) (now (s .entry)) (p + 32) ≡ firstFrom (isByte b) (now (s .entry)) p) ⌝ }
+{
+    let mut h: u8 = 0;
+    let mut i: usize = 0;
+    while i < 32 {
+        h = h | (s[p + i] == b) as u8;
+        i += 1;
+    }
+    h
+}
+
+// How many of the eight bytes from `p` on stand before the first that is `b`.
+fn before_in_8(s: &[u8], p: usize, b: u8) -> usize
+    requires { ⌜ p + 8 ≤ length (now s) ⌝ }
+    ensures { λ r. ⌜ Before (isByte b) (now (s .entry)) p 8 r ⌝ }
+{
+    word::low_mark(byte_marks(s, p, b))
+}
+
+// What stands before the first, where `a` of eight bytes do, and `rest` of those behind them.
+fn joined(a: usize, rest: usize) -> usize
+    requires { ⌜ rest ≤ 24 ⌝ }
+    ensures { λ r. ⌜ (a < 8 → r ≡ a) × (a ≡ 8 → r ≡ 8 + rest) ⌝ }
+{
+    if a < 8 {
+        return a;
+    }
+    8 + rest
+}
+
+// How many of the 32 bytes from `p` on stand before the first that is `b`. All are compared at once, and where one is there all four words
+// are read, so that nothing depends on guessing which of them has it.
+fn before_in_32(s: &[u8], p: usize, b: u8) -> usize
+    requires { ⌜ p + 32 ≤ length (now s) ⌝ }
+    ensures { λ r. ⌜ Before (isByte b) (now (s .entry)) p 32 r ⌝ }
+{
+    if byte_in_32(s, p, b) == 0 {
+        return 32;
+    }
+    let first = before_in_8(s, p, b);
+    let second = before_in_8(s, p + 8, b);
+    let third = before_in_8(s, p + 16, b);
+    let fourth = before_in_8(s, p + 24, b);
+    joined(first, joined(second, joined(third, fourth)))
+}
+
+// The first place from `at` on with the byte `b`, or the end; `at` itself where it lies beyond the slice.
+pub fn find_byte(s: &[u8], at: usize, b: u8) -> usize
+    ensures { λ r. ⌜ r ≡ firstFrom (isByte b) (now (s .entry)) at ⌝ }
+{
+    if s.len() < 32 {
+        return byte_words(s, at, b);
+    }
+    let last = s.len() - 32;
+    let mut place = at;
+    while place <= last {
+        let n = before_in_32(s, place, b);
+        if n < 32 {
+            return place + n;
+        }
+        place += 32;
+    }
+    byte_words(s, place, b)
 }
 
 // Whether a byte is no digit.

@@ -11,10 +11,15 @@ use lib.Seq.{drop-cons}
 use lib.ListN.{length, getD, drop}
 use Rattle.refusal.specs.Paper.{Paper, gives, more, refused, Spot, spot, pick}
 use Rattle.token.specs.declared.Token.{Token}
-use Rattle.token.specs.Ends.{endOf}
+use Rattle.token.specs.Meaning.{kindsOf}
+use Rattle.token.specs.Ends.{endOf, scalarEnd}
+use Rattle.blanks.proofs.Laws.{skip-here}
+use Rattle.blanks.proofs.Ways.{blank-above}
 use Rattle.number.specs.Bytes.{isDigit, isMinus, isSign, isExponent, isPointed, isText, any, all}
 use Rattle.number.specs.Grammar.{front, past, afterSign, valueAfter, isDecimal, isUpTo}
 use Rattle.number.specs.Number.{isInt64, int64Of, int64Text, numberText, numberOf, numberAt}
+use Rattle.text.specs.Text.{startedAt, textFrom}
+use Rattle.text.proofs.Laws.{something-started, is-number, number-scalar-end}
 
 -- false is not true
 IsTrue : Bool → Type 0
@@ -77,3 +82,13 @@ one-digit s p h a b e =
     (rw (le-ltb (length s) p (omega arith), ne-eqb (length s) p (λ q. omega arith))
     (ap (λ (l : List ℕ). endOf (numberOf p l)) (drop-cons s p 0 (omega arith) ∙ ap (_∷_ (getD s p 0)) (drop-cons s (suc p) 0 (omega arith) ∙ ap (λ (n : ℕ). n ∷ drop (suc (suc p)) s) (sym (ap (λ (n : ℕ). getD s n 0) (add-one p)) ∙ e)))
     ∙ from-digit (getD s p 0) a b p (drop (suc (suc p)) s)))
+
+-- where a digit stands nothing is ignored, and the token is a number
+pub digit-token : (s : List ℕ) (p : ℕ) → p < length s → 48 ≤ getD s p 0 → getD s p 0 ≤ 57 → endOf (numberAt s p) ≡ scalarEnd (kindsOf (textFrom s p))
+unfolding textFrom
+digit-token s p h a b =
+    let d = getD s p 0 in
+    number-scalar-end s p
+    ∙ sym
+    (ap (λ (q : Paper (Spot Token)). scalarEnd (kindsOf q))
+    (ap (startedAt s) (skip-here s p h (blank-above d (omega arith)) (λ z. omega arith)) ∙ something-started s p h ∙ is-number s p d (λ z. omega arith) (λ z. omega arith) (rw (digit d a b) refl)))

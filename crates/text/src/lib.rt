@@ -2,7 +2,7 @@
 // The definition is `textFrom` (specs/Text.antt): the first byte says which of the readers below is asked.
 ghost use mathlib.Core.Path.{_≡_};
 ghost use mathlib.Core.Bool.{true};
-ghost use Prim.Native.Nat.{_+_, _<_};
+ghost use Prim.Native.Nat.{_+_, _≤_, _<_};
 ghost use lib.ListN.{length, getD};
 ghost use Rattle.token.specs.Meaning.{readMeaning, kindsOf};
 ghost use Rattle.token.specs.Ends.{endOf, stringEnd, scalarEnd};
@@ -106,7 +106,7 @@ fn first_string_end(input: &[u8], p: usize) -> usize
 
 // Whether one digit and then a `;` stand at `p`: a whole number, and the commonest of lists of flags and counts.
 fn one_digit(input: &[u8], p: usize) -> bool
-    ensures { λ r. ⌜ (r ≡ true → (p < length (now (input .entry))) × (p + 1 ≡ endOf (numberAt (now (input .entry)) p))) ⌝ }
+    ensures { λ r. ⌜ (r ≡ true → (p < length (now (input .entry))) × (48 ≤ getD (now (input .entry)) p 0) × (getD (now (input .entry)) p 0 ≤ 57) × (p + 1 ≡ endOf (numberAt (now (input .entry)) p))) ⌝ }
 {
     if input.len() <= p {
         return false;
@@ -174,6 +174,9 @@ pub fn string_end(input: &[u8], at: usize) -> usize
 pub fn scalar_end(input: &[u8], at: usize) -> usize
     ensures { λ r. ⌜ r ≡ scalarEnd (kindsOf (textFrom (now (input .entry)) at)) ⌝ }
 {
+    if one_digit(input, at) {
+        return at + 1;
+    }
     first_scalar_end(input, blanks::first_place(input, at))
 }
 

@@ -11,7 +11,7 @@ add-result : tie.Need-add-result
 add-result c = let h = c .before .one-digit .ensures (c .if1 .taken) in omega (arith, h .0)
 
 returns : tie.Need-returns
-returns c = let h = c .before .one-digit .ensures (c .if1 .taken) in h .1
+returns c = let h = c .before .one-digit .ensures (c .if1 .taken) in h .3
 
 number-end-requires : tie.Need-number-end-requires
 number-end-requires c κs = search needs

@@ -36,7 +36,7 @@ returns-5 c = λ e. no e
 returns-6 : tie.Need-returns-6
 returns-6 c =
     λ e. let x = c .before .before .before .before .before .before .before .args in
-    (omega arith, one-digit (now (x .input)) (x .p) (omega arith) (omega arith) (omega arith) (c .before .before .before .if3 .left))
+    (omega arith, omega arith, omega arith, one-digit (now (x .input)) (x .p) (omega arith) (omega arith) (omega arith) (c .before .before .before .if3 .left))
 
 pub one-digit-spec : {M : Type 1} → statement M
 one-digit-spec =
