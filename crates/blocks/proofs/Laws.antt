@@ -166,7 +166,7 @@ module _ (s : List ℕ) (p m : ℕ) (d₀ : Due) (ks : List ℕ) (n q : ℕ) (e 
   pub apt-as : (y : Move) → r ≡ y → Apt y m
   apt-as y g = rw g at (w .apt)
 
-  closes : (y : Move) (d : Due) → r ≡ y → stepOf y (dueOf d₀) (openIn m ks) ≡ go (around (openIn m ks)) (dueOf d) → 0 < m → readOn binary s p (blocks m d₀ ks) n ≡ readOn binary s q (blocks (m - 1) d (set ks (m - 1) 0)) (n + 1)
+  closes : (y : Move) (d : Due) → r ≡ y → stepOf y (dueOf d₀) (openIn m ks) ≡ go (around (openIn m ks)) (dueOf d) → 0 < m → readOn binary s p (blocks m d₀ ks) n ≡ readOn binary s q (blocks (m - 1) d ks) (n + 1)
   closes y d g f a = on y g (around (openIn m ks)) d f _ (then-close m ks d₀ d (λ z. omega arith))
 
   keeps : (y : Move) (d : Due) → r ≡ y → stepOf y (dueOf d₀) (openIn m ks) ≡ go (openIn m ks) (dueOf d) → readOn binary s p (blocks m d₀ ks) n ≡ readOn binary s q (blocks m d ks) (n + 1)

@@ -206,11 +206,9 @@ module _ (n : ℕ) (ks : List ℕ) (d₀ d : Due) where
       let l : suc (length (openIn n ks)) ≡ n + 1 = omega (arith, open-length ks n) in
       rw (lt-ltb n (suc (length (openIn n ks))) (omega arith), l, kept-due d, e) refl
 
-  pub then-close : (n ≡ 0 → ⊥) → blocksThen b₀ (around (openIn n ks)) (dueOf d) ≡ blocks (n - 1) d (set ks (n - 1) 0)
+  pub then-close : (n ≡ 0 → ⊥) → blocksThen b₀ (around (openIn n ks)) (dueOf d) ≡ blocks (n - 1) d ks
   unfolding kindsThen
-  then-close h =
-      let p : 0 < n = omega arith in
-      rw (around-is ks n h, open-length ks (n - 1), le-ltb n (n - 1) (omega arith), lt-ltb (n - 1) n (omega arith), kept-due d) refl
+  then-close h = rw (around-is ks n h, open-length ks (n - 1), le-ltb n (n - 1) (omega arith), kept-due d) refl
 
   pub then-keep : blocksThen b₀ (openIn n ks) (dueOf d) ≡ blocks n d ks
   unfolding kindsThen

@@ -1,5 +1,5 @@
 -- The open blocks as a state keeps them: one byte for each, the outermost first, and what is due in the innermost.
-use Prim.Native.Nat.{ℕ, zero, suc, _-_}
+use Prim.Native.Nat.{ℕ, zero, suc}
 use mathlib.Core.Bool.{Bool, true, false, not, _&&_, _||_}
 use mathlib.Core.List.{List, [], _∷_}
 use lib.Dec.{eqb, ltb, leb}
@@ -63,19 +63,13 @@ unfoldable pub innermost : List Block → ℕ
 innermost [] = 0
 innermost (x ∷ K) = byteOf x
 
--- a token that leaves the blocks K open has opened one, or ended one
+-- a token that leaves the blocks K open has opened one
 abbrev pub opensOne : Blocks → List Block → Bool
 opensOne b K = ltb (b .depth) (length K)
 
-abbrev pub endsOne : Blocks → List Block → Bool
-endsOne b K = ltb (length K) (b .depth)
-
--- the bytes behind it: a block that it opened has its byte behind the others, the byte of one that it ended is 0 again, and else they stay
+-- the bytes behind it: a block that it opened has its byte behind the others, and no other byte changes
 unfoldable pub kindsThen : Blocks → List Block → List ℕ
-kindsThen b K =
-    pick (opensOne b K) (set (b .kinds) (b .depth) (innermost K))
-    (pick (endsOne b K) (set (b .kinds) (b .depth - 1) 0)
-    (b .kinds))
+kindsThen b K = pick (opensOne b K) (set (b .kinds) (b .depth) (innermost K)) (b .kinds)
 
 -- the open blocks behind a token that leaves the blocks K open and the part d due
 abbrev pub blocksThen : Blocks → List Block → automaton.Due → Blocks

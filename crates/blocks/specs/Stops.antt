@@ -30,9 +30,9 @@ abbrev pub movedBy : Move → ℕ → Due → List ℕ → Blocks
 movedBy OpenList n d ks = blocksWith (n + 1) Item (set ks n listByte)
 movedBy OpenMap n d ks = blocksWith (n + 1) Key (set ks n mapByte)
 movedBy OpenAttributes n d ks = blocksWith (n + 1) Key (set ks n attributesByte)
-movedBy CloseItem n d ks = blocksWith (n - 1) Item (set ks (n - 1) 0)
-movedBy CloseKey n d ks = blocksWith (n - 1) Key (set ks (n - 1) 0)
-movedBy CloseObject n d ks = blocksWith (n - 1) Object (set ks (n - 1) 0)
+movedBy CloseItem n d ks = blocksWith (n - 1) Item ks
+movedBy CloseKey n d ks = blocksWith (n - 1) Key ks
+movedBy CloseObject n d ks = blocksWith (n - 1) Object ks
 movedBy Stay n d ks = blocksWith n d ks
 movedBy ToItem n d ks = blocksWith n Item ks
 movedBy ToKey n d ks = blocksWith n Key ks

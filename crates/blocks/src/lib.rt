@@ -454,27 +454,18 @@ fn moved(kinds: &mut [u8; 128], depth: usize, due: Due, way: Move) -> Inner
                 due: Due::Key,
             }
         }
-        Move::CloseItem => {
-            kinds[depth - 1] = 0;
-            Inner {
-                depth: depth - 1,
-                due: Due::Item,
-            }
-        }
-        Move::CloseKey => {
-            kinds[depth - 1] = 0;
-            Inner {
-                depth: depth - 1,
-                due: Due::Key,
-            }
-        }
-        Move::CloseObject => {
-            kinds[depth - 1] = 0;
-            Inner {
-                depth: depth - 1,
-                due: Due::Object,
-            }
-        }
+        Move::CloseItem => Inner {
+            depth: depth - 1,
+            due: Due::Item,
+        },
+        Move::CloseKey => Inner {
+            depth: depth - 1,
+            due: Due::Key,
+        },
+        Move::CloseObject => Inner {
+            depth: depth - 1,
+            due: Due::Object,
+        },
         Move::ToItem => Inner {
             depth,
             due: Due::Item,

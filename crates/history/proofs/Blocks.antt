@@ -239,13 +239,13 @@ module _ (n : ℕ) (d₀ : declared.Due) (ks : List ℕ) (p q : ℕ) (h : p < q)
       let z : n ≡ 0 → ⊥ = λ y. let u : length (openIn n ks) ≡ suc (length K) = ap length f in omega (arith, open-length ks n) in
       let i : openIn (n - 1) ks ≡ K = sym (around-is ks n z) ∙ ap around f in
       let m : suc (n - 1) ≡ n = omega arith in
-      let g : blocksThen (blocks n d₀ ks) K e ≡ blocks (n - 1) (keptDue e) (set ks (n - 1) 0) = put (around (openIn n ks)) K (ap around f) ∙ then-close n ks d₀ (keptDue e) z in
+      let g : blocksThen (blocks n d₀ ks) K e ≡ blocks (n - 1) (keptDue e) ks = put (around (openIn n ks)) K (ap around f) ∙ then-close n ks d₀ (keptDue e) z in
       subst (λ (b : Blocks). Sound b q) (sym g) (record {
         top = omega (arith, S .top);
         few = omega (arith, S .few);
-        known = known-below ks (n - 1) 0 (n - 1) (omega arith) ∙ known-less ks (n - 1) (ap (λ (j : ℕ). kindsKnown j ks) m ∙ S .known);
-        due = rw (open-below ks (n - 1) 0 (n - 1) (omega arith), due-kept e, i) t;
-        slots = simp length-set (S .slots);
+        known = known-less ks (n - 1) (ap (λ (j : ℕ). kindsKnown j ks) m ∙ S .known);
+        due = rw (due-kept e, i) t;
+        slots = S .slots;
       })
 
 pub then-sound : (b : Blocks) (p q : ℕ) → p < q → Sound b p → (k : Kind) (L : List Block) (e : Due) → step (dueOf (b .due)) (blocksOf b) k ≡ go L e → Sound (blocksThen b L e) q

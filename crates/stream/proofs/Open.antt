@@ -65,9 +65,9 @@ module _ (b : Blocks) where
   unfolding kindsThen innermost
   kinds-more x = rw (lt-ltb (b .depth) (suc (length (blocksOf b))) (omega (arith, open-length (b .kinds) (b .depth)))) refl
 
-  kinds-less : (L : List Block) → suc (length L) ≡ b .depth → kindsThen b L ≡ set (b .kinds) (b .depth - 1) 0
+  kinds-less : (L : List Block) → suc (length L) ≡ b .depth → kindsThen b L ≡ b .kinds
   unfolding kindsThen
-  kinds-less L h = rw (le-ltb (b .depth) (length L) (omega arith), lt-ltb (length L) (b .depth) (omega arith)) refl
+  kinds-less L h = rw (le-ltb (b .depth) (length L) (omega arith)) refl
 
   kinds-same : kindsThen b (blocksOf b) ≡ b .kinds
   unfolding kindsThen
@@ -107,15 +107,15 @@ module _ (b : Blocks) (k : ℕ) (G : Good b k) where
       let n = deep-is in
       let m : suc (length L) ≡ b .depth = sym (ap length q) ∙ n in
       let j : b .depth - 1 ≡ length L = omega arith in
-      let w = kinds-less b L m ∙ ap (λ (i : ℕ). set (b .kinds) i 0) j in
+      let w = kinds-less b L m in
       let i : openIn (b .depth - 1) (b .kinds) ≡ L = cc (open-some (b .kinds) (b .depth) (λ z. omega arith)) in
       record {
-        opens = rw (w, open-set (b .kinds) (length L) 0 (length L) (omega arith), ← j) i;
+        opens = rw (w, ← j) i;
         takes-due = e;
         top = omega (arith, G .top);
         one = omega arith;
-        known = rw (w, known-set (b .kinds) (length L) 0 (length L) (omega arith)) (known-less (b .kinds) (length L) (rw m (G .known)));
-        len = rw (w, length-set (b .kinds) (length L) 0) (G .len);
+        known = rw w (known-less (b .kinds) (length L) (rw m (G .known)));
+        len = rw w (G .len);
       }
 
   same-behind : (d : Due) → takes (blocksOf b) d ≡ true → Behind b (blocksOf b) d

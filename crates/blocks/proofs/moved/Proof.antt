@@ -36,38 +36,20 @@ add-t16 c = search needs
 enum-told-4 : tie.Need-enum-told-4
 enum-told-4 c = search needs
 
-sub-kinds : tie.Need-sub-kinds
-sub-kinds c = apt-is (c .before .before .args .depth) (c .before .before .args .way) CloseItem (c .enum-told4 .given .1) (c .before .before .pre .1)
-
-element-write-kinds-4 : tie.Need-element-write-kinds-4
-element-write-kinds-4 c = search needs
-
 sub-t18 : tie.Need-sub-t18
 sub-t18 c = apt-is (c .before .before .args .depth) (c .before .before .args .way) CloseItem (c .enum-told4 .given .1) (c .before .before .pre .1)
 
 enum-told-5 : tie.Need-enum-told-5
 enum-told-5 c = search needs
 
-sub-kinds-2 : tie.Need-sub-kinds-2
-sub-kinds-2 c = apt-is (c .before .before .args .depth) (c .before .before .args .way) CloseKey (c .enum-told5 .given .1) (c .before .before .pre .1)
-
-element-write-kinds-5 : tie.Need-element-write-kinds-5
-element-write-kinds-5 c = search needs
-
-sub-t22 : tie.Need-sub-t22
-sub-t22 c = apt-is (c .before .before .args .depth) (c .before .before .args .way) CloseKey (c .enum-told5 .given .1) (c .before .before .pre .1)
+sub-t20 : tie.Need-sub-t20
+sub-t20 c = apt-is (c .before .before .args .depth) (c .before .before .args .way) CloseKey (c .enum-told5 .given .1) (c .before .before .pre .1)
 
 enum-told-6 : tie.Need-enum-told-6
 enum-told-6 c = search needs
 
-sub-kinds-3 : tie.Need-sub-kinds-3
-sub-kinds-3 c = apt-is (c .before .before .args .depth) (c .before .before .args .way) CloseObject (c .enum-told6 .given .1) (c .before .before .pre .1)
-
-element-write-kinds-6 : tie.Need-element-write-kinds-6
-element-write-kinds-6 c = search needs
-
-sub-t26 : tie.Need-sub-t26
-sub-t26 c = apt-is (c .before .before .args .depth) (c .before .before .args .way) CloseObject (c .enum-told6 .given .1) (c .before .before .pre .1)
+sub-t22 : tie.Need-sub-t22
+sub-t22 c = apt-is (c .before .before .args .depth) (c .before .before .args .way) CloseObject (c .enum-told6 .given .1) (c .before .before .pre .1)
 
 enum-told-7 : tie.Need-enum-told-7
 enum-told-7 c = search needs
@@ -128,17 +110,11 @@ moved-spec =
     element-write-kinds-3
     add-t16
     enum-told-4
-    sub-kinds
-    element-write-kinds-4
     sub-t18
     enum-told-5
-    sub-kinds-2
-    element-write-kinds-5
-    sub-t22
+    sub-t20
     enum-told-6
-    sub-kinds-3
-    element-write-kinds-6
-    sub-t26
+    sub-t22
     enum-told-7
     enum-told-8
     enum-told-9
