@@ -1,4 +1,6 @@
-use mathlib.Core.Path.{_∙_, sym}
+use mathlib.Core.Path.{_∙_, sym, ap, subst}
+use lib.IntN.{ℤ}
+use mir.Val.{toZ, ofZ, SFits}
 use native.Mathlib.Omega.{arith}
 use mir.Syntax.{w64}
 use mir.ValLaws.{toZ-pos, toZ-neg}
@@ -17,10 +19,10 @@ cast-result-2 : tie.Need-cast-result-2
 cast-result-2 c = search needs
 
 add-result : tie.Need-add-result
-add-result c = rw (high-sum _ (c .if1 .left) (search needs)) (record { sfits = omega arith })
+add-result c = subst (SFits w64) (sym (high-sum (c .before .args .pattern) (c .if1 .left) (search needs))) (record { sfits = omega arith })
 
 returns-2 : tie.Need-returns-2
-returns-2 c = rw (high-sum _ (c .if1 .left) (search needs)) (toZ-neg w64 _ (omega arith) ∙ sym (twos-high _ (c .if1 .left)))
+returns-2 c = ap (λ (z : ℤ). toZ w64 (ofZ w64 z)) (high-sum (c .before .args .pattern) (c .if1 .left) (search needs)) ∙ (toZ-neg w64 _ (omega arith) ∙ sym (twos-high _ (c .if1 .left)))
 
 pub to-i64-spec : {M : Type 1} → statement M
 to-i64-spec = tie.close (tie.spec cast-result returns cast-result-2 add-result returns-2)

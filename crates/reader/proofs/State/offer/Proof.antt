@@ -5,8 +5,10 @@ use lib.ListN.{length}
 use Rattle.reader.specs.Fits.{Fitting}
 use Rattle.reader.proofs.Shell.{offer-taken, buffer-taken, fitting}
 use Rattle.reader.proofs.Buffer.{offered-buffer}
-use mathlib.Core.Path.{sym, _∙_}
-use Prim.Native.Nat.{_-_}
+use mathlib.Core.Path.{_≡_, sym, _∙_}
+use mathlib.Core.List.{List}
+use lib.Seq.{paste, slice}
+use Prim.Native.Nat.{ℕ, _-_}
 use native.Mathlib.Omega.{arith}
 use borrow.Author.Tests.{lt-ltb, not-true, not-false}
 use Rattle.reader.specs.Calls.{offerOf, bufferOf}
@@ -75,9 +77,10 @@ returns-4 c =
     let h = a .self .filled - a .self .start in
     let l = min-le-left (length (a .piece .now)) (length (a .buf .now) - h) in
     let r = min-le-right (length (a .piece .now)) (length (a .buf .now) - h) in
-    let t = sym (c .before .before .before .before .before .before .before .before .before .before .before .before .fits-together .ensures) ∙ not-false _ (c .before .before .before .before .before .before .before .before .before .before .before .if1 .left) in (
+    let t = sym (c .before .before .before .before .before .before .before .before .before .before .before .before .fits-together .ensures) ∙ not-false _ (c .before .before .before .before .before .before .before .before .before .before .before .if1 .left) in
+    let front : _≡_ {A = List ℕ} _ (paste (a .buf .now) 0 (slice (a .self .start) (a .self .filled) (a .buf .now)) h) = c .before .before .before .before .before .before .shift .ensures in (
       rw (c .before .before .before .before .before .before .before .before .least .ensures) (sym (offer-taken (a .self) (length (a .buf .now)) (length (a .piece .now)) t (c .before .before .before .before .before .before .before .before .before .before .if2 .left) (c .before .before .before .before .before .before .before .before .before .if3 .left))),
-      c .before .before .put .ensures ∙ rw (c .before .before .before .before .before .before .shift .ensures, c .before .before .before .before .before .before .before .before .least .ensures)
+      c .before .before .put .ensures ∙ rw (front, c .before .before .before .before .before .before .before .before .least .ensures)
           (offered-buffer (a .buf .now) (a .piece .now) (a .self .start) (a .self .filled) (min (length (a .piece .now)) (length (a .buf .now) - h)) (omega (arith, F .order, F .passed)) (F .within) l (omega (arith, r, F .within, F .order, F .passed)))
           ∙ sym (buffer-taken (a .self) (a .piece .now) (a .buf .now) t (c .before .before .before .before .before .before .before .before .before .before .if2 .left) (c .before .before .before .before .before .before .before .before .before .if3 .left)),
     )
