@@ -152,25 +152,15 @@ fn measure(
             println!("{:24} {:5.2}", corpus.name, ratio(new, old));
         }
     }
-    println!("the reader, time per byte of one stream of 1 KB, 8 KB, 64 KB, 512 KB, 4 MB and 64 MB, to that of 64 MB");
+    println!(
+        "the reader, time per byte of one stream of 1 KB, 8 KB, 64 KB, 512 KB, 4 MB and 64 MB, to that of 64 MB; \
+         every stream of a line is the same bytes over and over, as many as are named"
+    );
     for corpus in all() {
         if corpus.format == Format::Binary {
-            let rows: Vec<Row> = [1 << 10, 8 << 10, N, 8 * N, 64 * N, FILE]
-                .iter()
-                .map(|length| {
-                    let bytes = records_within(&corpus, N.min(*length)).to_vec();
-                    let times = (length / N).max(1) as u32;
-                    let units = bytes.len() * times as usize;
-                    Row {
-                        bytes,
-                        times,
-                        units,
-                    }
-                })
-                .filter(|row| row.units > 0)
-                .collect();
-            let times = by_turns(folder, rounds, &rows, deliveries)?;
-            println!("{:24} {}", corpus.name, to_last(&times));
+            for length in [1 << 10, 8 << 10, N] {
+                lengths(folder, rounds, &corpus, length, deliveries)?;
+            }
         }
     }
     println!("the reader, time per token at depths 1, 16, 64 and 128, to that at 128");
@@ -210,6 +200,44 @@ fn to_last(times: &[f64]) -> String {
         .map(|time| format!("{:.2}", time / last))
         .collect();
     ratios.join(" ")
+}
+
+/// How the reader's time per byte grows with the stream, where the first records of a corpus come over and over, as many as take at most
+/// `length` bytes: so a line's streams differ in their length and in nothing else. A corpus with no such record has no line.
+fn lengths(
+    folder: &Path,
+    rounds: u32,
+    corpus: &Corpus,
+    length: usize,
+    deliveries: &[String],
+) -> io::Result<()> {
+    let content = records_within(corpus, length);
+    if content.is_empty() {
+        return Ok(());
+    }
+    let streams = [1 << 10, 8 << 10, N, 8 * N, 64 * N, FILE];
+    let rows: Vec<Row> = streams
+        .iter()
+        .filter(|stream| **stream >= length)
+        .map(|stream| {
+            let bytes = content.repeat(N.min(*stream) / length);
+            let times = (stream / N).max(1) as u32;
+            let units = bytes.len() * times as usize;
+            Row {
+                bytes,
+                times,
+                units,
+            }
+        })
+        .collect();
+    let times = by_turns(folder, rounds, &rows, deliveries)?;
+    println!(
+        "{:24} {:6} bytes {}",
+        corpus.name,
+        content.len(),
+        to_last(&times)
+    );
+    Ok(())
 }
 
 /// A list of integers inside so many lists, and how many tokens that is.
