@@ -184,6 +184,17 @@ fn marked_end(input: &[u8], at: usize) -> usize
     }
 }
 
+// The same by its marker b. A string comes first: one whose length takes more than a byte is the commonest to come here.
+fn other_end(input: &[u8], b: u8, at: usize) -> usize
+    requires { ⌜ (at < length (now input)) × (b ≡ getD (now input) at 0) × (b ≤ 6) ⌝ }
+    ensures { λ r. ⌜ r ≡ scalarEnd (kindsOf (binaryFrom (now (input .entry)) at)) ⌝ }
+{
+    if b == 0x01 {
+        return string_at_end(input, at);
+    }
+    marked_end(input, at)
+}
+
 // The place after the scalar whose marker b stands at `at`. An int64 of one byte comes first, and then what eight bytes tell.
 fn told_end(input: &[u8], b: u8, at: usize) -> usize
     requires { ⌜ (at < length (now input)) × (b ≡ getD (now input) at 0) × (0 < b) × (b ≤ 6) ⌝ }
@@ -199,10 +210,10 @@ fn told_end(input: &[u8], b: u8, at: usize) -> usize
     }
     let size = size_of(input, b, at);
     if left < size {
-        return marked_end(input, at);
+        return other_end(input, b, at);
     }
     if size == UNKNOWN {
-        return marked_end(input, at);
+        return other_end(input, b, at);
     }
     p + size
 }

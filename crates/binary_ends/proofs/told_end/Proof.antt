@@ -41,14 +41,14 @@ returns-2 c =
 size-of-requires : tie.Need-size-of-requires
 size-of-requires c κs = search needs
 
-marked-end-requires-2 : tie.Need-marked-end-requires-2
-marked-end-requires-2 c κs = search needs
+other-end-requires : tie.Need-other-end-requires
+other-end-requires c κs = search needs
 
 returns-3 : tie.Need-returns-3
 returns-3 c = search needs
 
-marked-end-requires-3 : tie.Need-marked-end-requires-3
-marked-end-requires-3 c κs = search needs
+other-end-requires-2 : tie.Need-other-end-requires-2
+other-end-requires-2 c κs = search needs
 
 returns-4 : tie.Need-returns-4
 returns-4 c = search needs
@@ -76,9 +76,9 @@ told-end-spec =
     add-result
     returns-2
     size-of-requires
-    marked-end-requires-2
+    other-end-requires
     returns-3
-    marked-end-requires-3
+    other-end-requires-2
     returns-4
     add-result-2
     returns-5)
