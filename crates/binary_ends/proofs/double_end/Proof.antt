@@ -1,5 +1,5 @@
 -- `double_end` meets its contract.
-use mathlib.Core.Path.{sym}
+use mathlib.Core.Path.{sym, refl}
 use Prim.Native.Nat.{_-_}
 use denote.Ref.{now}
 use lib.ListN.{length}
@@ -21,7 +21,7 @@ add-result c = search needs
 
 returns-2 : tie.Need-returns-2
 unfolding doubleAt
-returns-2 c = let x = c .before .args in sym (rw (le-ltb (length (now (x .input)) - x .at) 9 (c .if1 .left)))
+returns-2 c = let x = c .before .args in sym (rw (le-ltb (length (now (x .input)) - x .at) 9 (c .if1 .left)) refl)
 
 pub double-end-spec : {M : Type 1} → statement M
 double-end-spec = tie.close (tie.spec sub-if1 returns add-result returns-2)

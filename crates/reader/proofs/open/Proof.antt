@@ -1,4 +1,5 @@
 -- `open` meets its contract.
+use mathlib.Core.Path.{refl}
 use Prim.Native.Nat.{_-_}
 use borrow.Author.Tests.{lt-ltb, le-ltb}
 use Rattle.reader.specs.Calls.{openOf}
@@ -18,14 +19,14 @@ new-state-requires-2 c κs = search needs
 
 returns-2 : tie.Need-returns-2
 unfolding openOf
-returns-2 c = simp (le-ltb _ _ (c .before .before .if1 .left), lt-ltb _ _ (c .before .if2 .taken), c .new-state2 .ensures)
+returns-2 c = simp (le-ltb _ _ (c .before .before .if1 .left), lt-ltb _ _ (c .before .if2 .taken), c .new-state2 .ensures) refl
 
 new-state-requires-3 : tie.Need-new-state-requires-3
 new-state-requires-3 c κs = search needs
 
 returns-3 : tie.Need-returns-3
 unfolding openOf
-returns-3 c = simp (le-ltb _ _ (c .before .before .if1 .left), le-ltb _ _ (c .before .if2 .left), c .new-state3 .ensures)
+returns-3 c = simp (le-ltb _ _ (c .before .before .if1 .left), le-ltb _ _ (c .before .if2 .left), c .new-state3 .ensures) refl
 
 pub open-spec : {M : Type 1} → statement M
 open-spec =

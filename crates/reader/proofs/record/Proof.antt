@@ -1,5 +1,5 @@
 -- `record` meets its contract.
-use mathlib.Core.Path.{_≡_}
+use mathlib.Core.Path.{_≡_, refl}
 use Prim.Native.Nat.{_+_, _-_}
 use native.Mathlib.Omega.{arith}
 use borrow.Author.Tests.{lt-ltb, le-ltb}
@@ -44,7 +44,7 @@ part-result-end-3 : tie.Need-part-result-end-3
 part-result-end-3 c = search needs
 
 returns-3 : tie.Need-returns-3
-returns-3 c = let q : c .before .before .before .args .place + c .before .before .before .args .length - c .before .before .before .args .place ≡ c .before .before .before .args .length = omega arith in simp (le-ltb _ _ (c .before .before .if1 .left), le-ltb _ _ (c .before .if2 .left), q)
+returns-3 c = let q : c .before .before .before .args .place + c .before .before .before .args .length - c .before .before .before .args .place ≡ c .before .before .before .args .length = omega arith in simp (le-ltb _ _ (c .before .before .if1 .left), le-ltb _ _ (c .before .if2 .left), q) refl
 
 pub record-spec : {M : Type 1} → statement M
 record-spec =

@@ -1,5 +1,5 @@
 -- `State::close` meets its contract.
-use mathlib.Core.Path.{sym, _∙_}
+use mathlib.Core.Path.{sym, _∙_, refl}
 use Prim.Native.Nat.{_-_}
 use borrow.Author.Tests.{not-true, not-false}
 use Rattle.reader.specs.Calls.{closeOf}
@@ -16,7 +16,7 @@ returns c = simp (sym (c .before .fits-together .ensures) ∙ not-true _ (c .if1
 
 returns-2 : tie.Need-returns-2
 unfolding closeOf
-returns-2 c = simp (sym (c .before .fits-together .ensures) ∙ not-false _ (c .if1 .left))
+returns-2 c = simp (sym (c .before .fits-together .ensures) ∙ not-false _ (c .if1 .left)) refl
 
 pub close-spec : {M : Type 1} → statement M
 close-spec = tie.close (tie.spec fits-together-requires returns returns-2)

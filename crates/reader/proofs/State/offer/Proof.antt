@@ -5,7 +5,7 @@ use lib.ListN.{length}
 use Rattle.reader.specs.Fits.{Fitting}
 use Rattle.reader.proofs.Shell.{offer-taken, buffer-taken, fitting}
 use Rattle.reader.proofs.Buffer.{offered-buffer}
-use mathlib.Core.Path.{_≡_, sym, _∙_}
+use mathlib.Core.Path.{_≡_, sym, _∙_, refl}
 use mathlib.Core.List.{List}
 use lib.Seq.{paste, slice}
 use Prim.Native.Nat.{ℕ, _-_}
@@ -24,7 +24,7 @@ fits-together-requires c κs = search needs
 
 returns : tie.Need-returns
 unfolding offerOf bufferOf
-returns c = (simp (sym (c .before .fits-together .ensures) ∙ not-true _ (c .if1 .taken)), simp (sym (c .before .fits-together .ensures) ∙ not-true _ (c .if1 .taken)))
+returns c = (simp (sym (c .before .fits-together .ensures) ∙ not-true _ (c .if1 .taken)) refl, simp (sym (c .before .fits-together .ensures) ∙ not-true _ (c .if1 .taken)) refl)
 
 returns-2 : tie.Need-returns-2
 unfolding offerOf bufferOf

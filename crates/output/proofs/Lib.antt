@@ -1,0 +1,2 @@
+-- That a number's digits put into output are one list (One).
+pub mod One
