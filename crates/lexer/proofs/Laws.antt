@@ -21,7 +21,8 @@ use Rattle.binary.proofs.Laws as bin
 use Rattle.binary.proofs.Callers as bc
 use Rattle.blanks.specs.Skip.{skipFrom}
 use Rattle.blanks.proofs.Laws as blank
-use Rattle.number.specs.Bytes.{isDigit, isSign}
+use Rattle.token.specs.Digits.{isDigit}
+use Rattle.number.specs.Bytes.{isSign}
 use Rattle.words.specs.Plain.{isLetter}
 use Rattle.text.specs.Text.{started, startedAt, textFrom}
 use Rattle.text.proofs.Laws.{nothing-started, something-started}

@@ -6,7 +6,8 @@ use Prim.Native.Nat.{ℕ, _+_, _≤_, _<_}
 use native.Mathlib.Omega.{arith}
 use borrow.Author.Tests.{le-leb, lt-leb, leb-true, leb-false, eqb-true, eq-eqb, ne-eqb}
 use lib.Dec.{eqb, leb}
-use Rattle.number.specs.Bytes.{isDigit, isMinus, isSign, isPoint, isExponent, isPointed, isText, isUnsigned, starts}
+use Rattle.token.specs.Digits.{isDigit}
+use Rattle.number.specs.Bytes.{isMinus, isSign, isPoint, isExponent, isPointed, isText, isUnsigned, starts}
 
 -- one class lies in another
 abbrev pub In : (ℕ → Bool) → (ℕ → Bool) → Type 0

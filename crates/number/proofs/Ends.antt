@@ -16,7 +16,8 @@ use Rattle.refusal.specs.Paper.{pick}
 use Rattle.refusal.proofs.Cases.{either}
 use Rattle.search.specs.First.{firstFrom, isOther}
 use Rattle.search.proofs.Laws.{first-found, same-at-first, from-ge, from-le}
-use Rattle.number.specs.Bytes.{isDigit, isMinus, isSign, isPoint, isExponent, isPointed, isText, isUnsigned, starts, any}
+use Rattle.token.specs.Digits.{isDigit}
+use Rattle.number.specs.Bytes.{isMinus, isSign, isPoint, isExponent, isPointed, isText, isUnsigned, starts, any}
 use Rattle.number.specs.Grammar.{past, afterSign, Left, none, left, onward, spent, digitsLeft, pointLeft, mantissaLeft, exponentLeft, doubleLeft, isDouble}
 use Rattle.number.specs.Places.{Leaves, leftAt, MayLeave, Whole}
 use Rattle.number.proofs.Runs.{past-none, past-one, past-less}

@@ -7,7 +7,8 @@ use Rattle.refusal.specs.Numbers.{badUint64, badDouble, badInt64}
 use Rattle.refusal.specs.Paper.{Paper, gives, more, refused, Spot, spot}
 use Rattle.token.specs.declared.Token.{Token}
 use Rattle.token.specs.declared.Token.the-variants.{Int64, Uint64, Decimal}
-use Rattle.number.specs.Bytes.{isDigit, isSign, isExponent, isPointed, isText, any, all}
+use Rattle.token.specs.Digits.{isDigit}
+use Rattle.number.specs.Bytes.{isSign, isExponent, isPointed, isText, any, all}
 use Rattle.number.specs.Grammar.{front, past, afterSign, digitsLeft, pointLeft, mantissaLeft, exponentLeft, doubleLeft, isDouble, isDecimal, valueAfter, isUpTo}
 use Rattle.number.specs.Number.{isUint64, isInt64, int64Of, uint64Text, doubleText, int64Text, numberText, numberOf, numberAt}
 

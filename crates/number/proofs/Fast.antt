@@ -10,7 +10,8 @@ use lib.ListN.{length, getD, drop, length-append, length-drop}
 use Rattle.refusal.specs.Paper.{Paper, gives, refused, Spot, spot, pick}
 use Rattle.token.specs.declared.Token.{Token}
 use Rattle.token.specs.declared.Token.the-variants.{Int64, Uint64, Decimal}
-use Rattle.number.specs.Bytes.{isDigit, isMinus, isPointed, isText, isUnsigned, starts, any, all}
+use Rattle.token.specs.Digits.{isDigit}
+use Rattle.number.specs.Bytes.{isMinus, isPointed, isText, isUnsigned, starts, any, all}
 use Rattle.number.specs.Grammar.{front, past, afterSign, Left, none, left, onward, spent, mantissaLeft, exponentLeft, doubleLeft, isUpTo, isDouble}
 use Rattle.token.specs.Ends.{endOf}
 use Rattle.number.specs.Number.{isUint64, isInt64, uint64Text, doubleText, int64Text, numberAt}

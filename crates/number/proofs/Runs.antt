@@ -7,7 +7,8 @@ use Prim.Native.Nat.{ℕ, suc, _+_, _-_, _≤_, _<_}
 use native.Mathlib.Omega.{arith}
 use lib.ListN.{length, length-append}
 use Rattle.refusal.specs.Paper.{pick}
-use Rattle.number.specs.Bytes.{isDigit, isMinus, isSign, isPoint, isExponent, isPointed, isText, starts, any, all}
+use Rattle.token.specs.Digits.{isDigit}
+use Rattle.number.specs.Bytes.{isMinus, isSign, isPoint, isExponent, isPointed, isText, starts, any, all}
 use Rattle.number.specs.Grammar.{front, past, afterSign, Left, none, left, onward, spent, digitsLeft, pointLeft, mantissaLeft, exponentLeft, doubleLeft, isDouble, isDecimal}
 use Rattle.number.proofs.Classes.{In, Apart, digit-in, sign-in, point-in, exponent-in, digit-apart, sign-apart, starts-less}
 

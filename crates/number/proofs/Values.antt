@@ -9,7 +9,8 @@ use borrow.Author.Tests.{le-leb, lt-leb}
 use lib.Dec.{leb, lit<}
 use lib.ListN.{length, getD, drop, drop-of-length-le}
 use Rattle.refusal.specs.Paper.{pick}
-use Rattle.number.specs.Bytes.{isDigit, starts, all}
+use Rattle.token.specs.Digits.{isDigit}
+use Rattle.number.specs.Bytes.{starts, all}
 use Rattle.number.specs.Grammar.{isDecimal, valueAfter, value, isUpTo}
 use Rattle.number.specs.Places.{upTo, AtMost}
 use Rattle.number.specs.declared.Magnitude.{Magnitude}

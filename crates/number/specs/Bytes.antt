@@ -2,11 +2,8 @@
 use Prim.Native.Nat.{ℕ}
 use mathlib.Core.Bool.{Bool, true, false, _&&_, _||_}
 use mathlib.Core.List.{List, [], _∷_}
-use lib.Dec.{eqb, leb}
-
--- `0` to `9`
-unfoldable pub isDigit : ℕ → Bool
-isDigit b = leb 48 b && leb b 57
+use lib.Dec.{eqb}
+use Rattle.token.specs.Digits.{isDigit}
 
 -- `-`
 abbrev pub isMinus : ℕ → Bool

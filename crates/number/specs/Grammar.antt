@@ -4,7 +4,8 @@ use mathlib.Core.Bool.{Bool, true, false, not, _&&_, _||_}
 use mathlib.Core.List.{List, [], _∷_}
 use lib.Dec.{leb}
 use Rattle.refusal.specs.Paper.{pick}
-use Rattle.number.specs.Bytes.{isDigit, isSign, isPoint, isExponent, starts, all}
+use Rattle.token.specs.Digits.{isDigit}
+use Rattle.number.specs.Bytes.{isSign, isPoint, isExponent, starts, all}
 
 -- the bytes of a class in front, and what is left behind them
 unfoldable pub front : (ℕ → Bool) → List ℕ → List ℕ

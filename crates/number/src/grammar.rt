@@ -3,7 +3,8 @@
 ghost use mathlib.Core.Path.{_≡_};
 ghost use Prim.Native.Nat.{_<_};
 ghost use lib.ListN.{drop};
-ghost use Rattle.number.specs.Bytes.{isDigit, isMinus, isSign, isExponent, isPointed, isText, starts, any};
+ghost use Rattle.token.specs.Digits.{isDigit};
+ghost use Rattle.number.specs.Bytes.{isMinus, isSign, isExponent, isPointed, isText, starts, any};
 ghost use Rattle.number.specs.Grammar.{past, afterSign, mantissaLeft, exponentLeft, onward, isDouble};
 ghost use Rattle.number.specs.Places.{Leaves, MayLeave};
 

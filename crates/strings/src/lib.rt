@@ -3,9 +3,10 @@
 ghost use mathlib.Core.Path.{_≡_};
 ghost use mathlib.Core.List.{_++_};
 ghost use Prim.Native.Nat.{_+_, _≤_};
-ghost use lib.ListN.{length, take, drop};
+ghost use lib.ListN.{length, drop};
 ghost use Rattle.token.specs.Meaning.{readMeaning};
-ghost use Rattle.token.specs.Strings.{unescapedMeaning, bytesAnswer, bytesWritten, stringFound};
+ghost use Rattle.token.specs.declared.Extent.the-variants.{Plain};
+ghost use Rattle.token.specs.Strings.{unescapedMeaning, bytesAnswer, bytesWritten, stringOf, stringFound};
 ghost use Rattle.strings.specs.Part.{partOf};
 use token::Extent;
 use token::Read;
@@ -40,8 +41,8 @@ fn put_part(bytes: &[u8], next: usize, out: &mut [u8]) -> Unescaped
 
 // The string of `len` bytes from `start` on, as far as the input has them, whose token ends at `next`.
 pub fn plain_bytes(input: &[u8], start: usize, len: usize, next: usize, out: &mut [u8]) -> Unescaped
-    ensures answer { λ r. ⌜ unescapedMeaning r ≡ bytesAnswer (partOf (take len (drop start (now (input .entry)))) next) (length (now (out .entry))) ⌝ }
-    ensures written { λ r. ⌜ now (out .exit) ≡ bytesWritten (partOf (take len (drop start (now (input .entry)))) next) (now (out .entry)) ⌝ }
+    ensures answer { λ r. ⌜ unescapedMeaning r ≡ bytesAnswer (stringOf (now (input .entry)) next (Plain start len)) (length (now (out .entry))) ⌝ }
+    ensures written { λ r. ⌜ now (out .exit) ≡ bytesWritten (stringOf (now (input .entry)) next (Plain start len)) (now (out .entry)) ⌝ }
 {
     if input.len() < start {
         return put_part(&input[..0], next, out);

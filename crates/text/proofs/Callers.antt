@@ -24,7 +24,8 @@ use Rattle.quoted.specs.Quoted.{quotedAt}
 use Rattle.quoted.proofs.Laws.{quoted-gives, quoted-refuses}
 use Rattle.number.specs.Number.{numberAt}
 use Rattle.number.proofs.Laws.{number-lies, number-refused, NoNumber, outside, bad, BadNumber, bad-uint64, bad-double, bad-int64}
-use Rattle.words.specs.Plain.{isLetter, isDigit, isPlain, plainEnd}
+use Rattle.token.specs.Digits.{isDigit}
+use Rattle.words.specs.Plain.{isLetter, isPlain, plainEnd}
 use Rattle.words.specs.Word.{wordAt}
 use Rattle.words.proofs.Laws as w
 use Rattle.text.specs.Text.{percent, startsNumber, startsPlain, plainAt, started, startedAt, textFrom}

@@ -21,7 +21,8 @@ use Rattle.blanks.specs.Skip.{skipFrom}
 use Rattle.pieces.specs.Bytes.{quote}
 use Rattle.quoted.specs.Quoted.{quotedAt, quotedStringAt}
 use Rattle.quoted.proofs.Laws.{quoted-gives}
-use Rattle.number.specs.Bytes.{isDigit, isSign}
+use Rattle.token.specs.Digits.{isDigit}
+use Rattle.number.specs.Bytes.{isSign}
 use Rattle.number.specs.Number.{numberAt}
 use Rattle.number.proofs.Laws.{number-lies, numeric-scalar}
 use Rattle.words.specs.Plain.{isLetter}

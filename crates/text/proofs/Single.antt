@@ -15,7 +15,8 @@ use Rattle.token.specs.Meaning.{kindsOf}
 use Rattle.token.specs.Ends.{endOf, scalarEnd}
 use Rattle.blanks.proofs.Laws.{skip-here}
 use Rattle.blanks.proofs.Ways.{blank-above}
-use Rattle.number.specs.Bytes.{isDigit, isMinus, isSign, isExponent, isPointed, isText, any, all}
+use Rattle.token.specs.Digits.{isDigit}
+use Rattle.number.specs.Bytes.{isMinus, isSign, isExponent, isPointed, isText, any, all}
 use Rattle.number.specs.Grammar.{front, past, afterSign, valueAfter, isDecimal, isUpTo}
 use Rattle.number.specs.Number.{isInt64, int64Of, int64Text, numberText, numberOf, numberAt}
 use Rattle.text.specs.Text.{startedAt, textFrom}

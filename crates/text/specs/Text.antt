@@ -12,7 +12,8 @@ use Rattle.token.specs.Marks.{markOf, ofMark}
 use Rattle.blanks.specs.Skip.{skipFrom}
 use Rattle.pieces.specs.Bytes.{quote}
 use Rattle.quoted.specs.Quoted.{quotedAt}
-use Rattle.number.specs.Bytes.{isDigit, isSign}
+use Rattle.token.specs.Digits.{isDigit}
+use Rattle.number.specs.Bytes.{isSign}
 use Rattle.number.specs.Number.{numberAt}
 use Rattle.words.specs.Word.{wordAt}
 use Rattle.words.specs.Plain.{isLetter, plainEnd}

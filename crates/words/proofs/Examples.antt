@@ -8,7 +8,8 @@ use Rattle.refusal.specs.Paper.{Paper, gives, more, refused, Spot, spot}
 use Rattle.token.specs.declared.Token.{Token}
 use Rattle.token.specs.declared.Token.the-variants.{Boolean}
 use Rattle.words.specs.Word.{double, stands, wordOf, wordAt}
-use Rattle.words.specs.Plain.{isLetter, isDigit, isPlain, plainRun, plainEnd}
+use Rattle.token.specs.Digits.{isDigit}
+use Rattle.words.specs.Plain.{isLetter, isPlain, plainRun, plainEnd}
 
 -- the bytes, and the answer at their start
 pub record Row : Type 0 where

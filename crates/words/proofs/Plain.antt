@@ -10,7 +10,8 @@ use lib.Dec.{leb}
 use lib.ListN.{drop}
 use Rattle.refusal.specs.Paper.{pick}
 use Rattle.search.specs.First.{first, firstFrom, isJoint, isEdge}
-use Rattle.words.specs.Plain.{isLetter, isDigit, isPlain, plainRun, plainEnd}
+use Rattle.token.specs.Digits.{isDigit}
+use Rattle.words.specs.Plain.{isLetter, isPlain, plainRun, plainEnd}
 
 module _ (b : ℕ) where
   pub letter-low : b < 65 → false ≡ isLetter b

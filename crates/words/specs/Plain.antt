@@ -5,14 +5,11 @@ use mathlib.Core.List.{List, [], _∷_}
 use lib.Dec.{eqb, leb}
 use lib.ListN.{drop}
 use Rattle.refusal.specs.Paper.{pick}
+use Rattle.token.specs.Digits.{isDigit}
 
 -- `A` to `Z`, and `a` to `z`
 unfoldable pub isLetter : ℕ → Bool
 isLetter b = (leb 65 b && leb b 90) || (leb 97 b && leb b 122)
-
--- `0` to `9`
-unfoldable pub isDigit : ℕ → Bool
-isDigit b = leb 48 b && leb b 57
 
 -- letters, digits, `_ - .`
 unfoldable pub isPlain : ℕ → Bool

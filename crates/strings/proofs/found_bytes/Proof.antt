@@ -1,6 +1,10 @@
 -- `found_bytes` meets its contract: the token's own answer, and then its bytes.
-use mathlib.Core.Path.{refl, sym, ap, _∙_}
+use mathlib.Core.Path.{_≡_, refl, sym, ap, _∙_}
+use Prim.Native.Nat.{ℕ}
+use lib.ListN.{length}
 use denote.Ref.{now}
+use Rattle.refusal.specs.Paper.{Paper, Got}
+use Rattle.token.specs.declared.Extent.the-variants.{Plain}
 use Rattle.token.specs.Meaning.{readMeaning}
 use Rattle.token.specs.Strings.{bytesAnswer, bytesWritten, stringOf, stringFound}
 use Rattle.strings.proofs.Laws.{handed}
@@ -43,8 +47,11 @@ returns c =
     let x = c .before .before .before .before .before .before .before .before .before .before .before .before .before .args in
     let s = now (x .input) in
     let r = c .before .before .before .before .before .before .before .before .before .read .given in
-    let e = ap (stringOf s (r .0 .1 .1 .0)) (sym (c .before .before .before .before .before .start .given .1) ∙ c .before .before .before .before .before .before .before .extent .ensures) ∙ ap (λ q. stringFound s (readMeaning q)) (sym (r .1)) in
-    handed (now (x .out)) e (c .before .before .plain-bytes .ensures)
+    let g = c .before .before .before .before .before .start .given in
+    let w = c .before .before .plain-bytes .ensures in
+    let answer : _≡_ {A = Paper (Got ℕ)} _ (bytesAnswer (stringOf s (r .0 .1 .1 .0) (Plain (g .0 .0) (g .0 .1 .0))) (length (now (x .out)))) = w .0 in
+    let e = ap (stringOf s (r .0 .1 .1 .0)) (sym (g .1) ∙ c .before .before .before .before .before .before .before .extent .ensures) ∙ ap (λ q. stringFound s (readMeaning q)) (sym (r .1)) in
+    handed (now (x .out)) e (answer, w .1)
 
 returns-2 : tie.Need-returns-2
 unfolding bytesAnswer bytesWritten

@@ -1,8 +1,11 @@
 -- `plain_bytes` meets its contract: each part is the same list as the definition's.
-use mathlib.Core.Path.{refl, ap}
+use mathlib.Core.Path.{_≡_, refl, ap}
 use mathlib.Core.List.{List}
 use Prim.Native.Nat.{ℕ}
+use lib.ListN.{length}
 use denote.Ref.{now}
+use Rattle.refusal.specs.Paper.{Paper, Got}
+use Rattle.token.specs.Strings.{bytesAnswer}
 use Rattle.strings.specs.Part.{partOf}
 use Rattle.strings.proofs.Laws.{handed, past-end, to-end, part-is}
 use borrow.Author.Needs.{needs}
@@ -72,8 +75,9 @@ returns-3 : tie.Need-returns-3
 returns-3 c =
     let x = c .before .before .before .before .before .before .before .before .before .args in
     let w = c .before .before .put-part3 .ensures in
+    let answer : _≡_ {A = Paper (Got ℕ)} _ (bytesAnswer (partOf _ (x .next)) (length (now (x .out)))) = w .0 in
     let e = part-is (now (x .input)) (x .start) (x .len) _ refl in
-    handed (now (x .out)) (ap (λ (l : List ℕ). partOf l (x .next)) e) w
+    handed (now (x .out)) (ap (λ (l : List ℕ). partOf l (x .next)) e) (answer, w .1)
 
 pub plain-bytes-spec : {M : Type 1} → statement M
 plain-bytes-spec =

@@ -79,9 +79,10 @@ returns-4 c =
 returns-5 : tie.Need-returns-5
 returns-5 c =
     let next : c .before .before .before .before .before .before .args .at + 4 ≡ c .before .before .before .before .before .before .args .at + 1 + 3 = omega arith in
-    ap (λ (x : Float). gives (spot (Double x 0x7ff8_0000_0000_0000) (c .before .before .before .before .before .before .args .at) (c .before .before .before .before .before .before .args .at + 4))) made-nan
-    ∙ ap (λ (n : ℕ). gives (spot (double 0x7ff8_0000_0000_0000) (c .before .before .before .before .before .before .args .at) n)) next
-    ∙ by-case (c .before .before .before .before .before .before .args .input .now) (c .before .before .before .before .before .before .args .at) (omega arith) (c .before .before .word-at .result) (c .before .before .word-at .ensures) Nan (c .enum-told3 .given .1)
+    let made = ap (λ (x : Float). gives (spot (Double x 0x7ff8_0000_0000_0000) (c .before .before .before .before .before .before .args .at) (c .before .before .before .before .before .before .args .at + 4))) made-nan in
+    let word = by-case (c .before .before .before .before .before .before .args .input .now) (c .before .before .before .before .before .before .args .at) (omega arith) (c .before .before .word-at .result) (c .before .before .word-at .ensures) Nan (c .enum-told3 .given .1) in
+    let nan = made ∙ ap (λ (n : ℕ). gives (spot (double 0x7ff8_0000_0000_0000) (c .before .before .before .before .before .before .args .at) n)) next ∙ word in
+    nan
 
 returns-6 : tie.Need-returns-6
 returns-6 c =
