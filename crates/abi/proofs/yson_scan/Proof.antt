@@ -1,6 +1,10 @@
 -- `yson_scan` meets its contract: each way of the code is a way of the call, and a scanned length fits.
-use mathlib.Core.Path.{sym, subst, ap, _∙_}
+use mathlib.Core.Path.{_≡_, sym, subst, ap, _∙_}
+use mathlib.Core.List.{[]}
+use denote.Ref.{now}
 use borrow.Author.Needs.{needs}
+use Rattle.refusal.specs.Numbers.{badCall}
+use Rattle.refusal.specs.Paper.{refused}
 use Rattle.refusal.specs.declared.Format.the-variants.{Binary, Text}
 use Rattle.abi.specs.Call.{signed, Fitting}
 use Rattle.abi.proofs.Negated.{held}
@@ -12,7 +16,10 @@ minus-requires : tie.Need-minus-requires
 minus-requires c κs = search needs
 
 returns : tie.Need-returns
-returns c = held _ (c .minus .ok) ∙ c .minus .ensures ∙ ap signed (sym (call-long _ _ (c .before .if1 .taken)))
+returns c =
+    let a = c .before .before .before .args in
+    let answer : _ ≡ signed (refused badCall []) = c .minus .ensures in
+    held _ (c .minus .ok) ∙ answer ∙ ap signed (sym (call-long (a .format) (now (a .bytes)) (c .before .if1 .taken)))
 
 scan-value-requires : tie.Need-scan-value-requires
 scan-value-requires c κs = search needs

@@ -1,5 +1,5 @@
 -- `next_token` meets its contract: each format's own reader.
-use mathlib.Core.Path.{_∙_, sym, ap}
+use mathlib.Core.Path.{_≡_, _∙_, sym, ap}
 use denote.Ref.{now}
 use Rattle.refusal.specs.declared.Format.{Format}
 use Rattle.binary.specs.Binary.{binaryAt}
@@ -23,11 +23,17 @@ text-token-requires c κs = search needs
 
 returns : tie.Need-returns
 unfolding tokenAt tokenFrom binaryAt textAt
-returns c = let x = c .before .before .before .before .args in c .binary-token .ensures ∙ ap (λ (f : Format). tokenAt f (now (x .input)) (x .at)) (sym (c .before .enum-told .given .1))
+returns c =
+    let x = c .before .before .before .before .args in
+    let token : _ ≡ binaryAt (now (x .input)) (x .at) = c .binary-token .ensures in
+    token ∙ ap (λ (f : Format). tokenAt f (now (x .input)) (x .at)) (sym (c .before .enum-told .given .1))
 
 returns-2 : tie.Need-returns-2
 unfolding tokenAt tokenFrom binaryAt textAt
-returns-2 c = let x = c .before .before .before .before .args in c .text-token .ensures ∙ ap (λ (f : Format). tokenAt f (now (x .input)) (x .at)) (sym (c .before .enum-told2 .given .1))
+returns-2 c =
+    let x = c .before .before .before .before .args in
+    let token : _ ≡ textAt (now (x .input)) (x .at) = c .text-token .ensures in
+    token ∙ ap (λ (f : Format). tokenAt f (now (x .input)) (x .at)) (sym (c .before .enum-told2 .given .1))
 
 pub next-token-spec : {M : Type 1} → statement M
 next-token-spec =

@@ -1,7 +1,8 @@
 -- `skip` meets its contract: nothing is ignored in binary.
-use mathlib.Core.Path.{_∙_, sym, ap}
+use mathlib.Core.Path.{_≡_, _∙_, sym, ap}
 use denote.Ref.{now}
 use Rattle.refusal.specs.declared.Format.{Format}
+use Rattle.blanks.specs.Skip.{skipFrom}
 use Rattle.lexer.specs.Lexer.{skipOf}
 use borrow.Author.Needs.{needs}
 use Rattle.lexer.proofs.skip.Statement.{statement}
@@ -22,7 +23,10 @@ returns c = let x = c .before .before .before .args in ap (λ (f : Format). skip
 
 returns-2 : tie.Need-returns-2
 unfolding skipOf
-returns-2 c = let x = c .before .before .before .before .args in c .first-place .ensures ∙ ap (λ (f : Format). skipOf f (now (x .input)) (x .at)) (sym (c .before .enum-told2 .given .1))
+returns-2 c =
+    let x = c .before .before .before .before .args in
+    let place : _ ≡ skipFrom (now (x .input)) (x .at) = c .first-place .ensures in
+    place ∙ ap (λ (f : Format). skipOf f (now (x .input)) (x .at)) (sym (c .before .enum-told2 .given .1))
 
 pub skip-spec : {M : Type 1} → statement M
 skip-spec = tie.close (tie.spec enum-told enum-told-2 first-place-requires returns returns-2)

@@ -1,9 +1,11 @@
 -- `string_bytes` meets its contract: each format's own reader.
-use mathlib.Core.Path.{_∙_, sym, ap}
+use mathlib.Core.Path.{_≡_, _∙_, sym, ap}
 use denote.Ref.{now}
 use lib.ListN.{length}
 use Rattle.refusal.specs.declared.Format.{Format}
 use Rattle.token.specs.Strings.{bytesAnswer, bytesWritten}
+use Rattle.binary.specs.Strings.{binaryStringAt}
+use Rattle.text.specs.Strings.{textStringAt}
 use Rattle.lexer.specs.Lexer.{stringAt}
 use borrow.Author.Needs.{needs}
 use Rattle.lexer.proofs.string_bytes.Statement.{statement}
@@ -32,7 +34,8 @@ returns c =
     let o = now (x .out) in
     let e = sym (c .before .before .before .before .enum-told .given .1) in
     let w = c .before .before .binary-string-bytes .ensures in
-    (w .0 ∙ ap (λ (f : Format). bytesAnswer (stringAt f s (x .at)) (length o)) e, w .1 ∙ ap (λ (f : Format). bytesWritten (stringAt f s (x .at)) o) e)
+    let answer : _ ≡ bytesAnswer (binaryStringAt s (x .at)) (length o) = w .0 in
+    (answer ∙ ap (λ (f : Format). bytesAnswer (stringAt f s (x .at)) (length o)) e, w .1 ∙ ap (λ (f : Format). bytesWritten (stringAt f s (x .at)) o) e)
 
 same-length-2 : tie.Need-same-length-2
 same-length-2 c = search needs
@@ -45,7 +48,8 @@ returns-2 c =
     let o = now (x .out) in
     let e = sym (c .before .before .before .before .enum-told2 .given .1) in
     let w = c .before .before .text-string-bytes .ensures in
-    (w .0 ∙ ap (λ (f : Format). bytesAnswer (stringAt f s (x .at)) (length o)) e, w .1 ∙ ap (λ (f : Format). bytesWritten (stringAt f s (x .at)) o) e)
+    let answer : _ ≡ bytesAnswer (textStringAt s (x .at)) (length o) = w .0 in
+    (answer ∙ ap (λ (f : Format). bytesAnswer (stringAt f s (x .at)) (length o)) e, w .1 ∙ ap (λ (f : Format). bytesWritten (stringAt f s (x .at)) o) e)
 
 pub string-bytes-spec : {M : Type 1} → statement M
 string-bytes-spec =

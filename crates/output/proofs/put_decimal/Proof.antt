@@ -34,8 +34,10 @@ returns : tie.Need-returns
 returns c =
     let a = c .before .before .before .before .before .before .before .before .args in
     let d = c .before .before .before .before .before .decimal in
-    let w = c .before .before .put-word in
-    record { k = d .result; fewest = d .ensures .1 .0; place = w .ensures .0 ∙ ap (after (now (a .out)) (a .n)) (d .ensures .1 .1); bytes = w .ensures .1 ∙ ap (put (now (a .out)) (a .n)) (d .ensures .1 .1) }
+    let w = c .before .before .put-word .ensures in
+    let place = w .0 ∙ ap (after _ _) (d .ensures .1 .1) in
+    let bytes = w .1 ∙ ap (put _ _) (d .ensures .1 .1) in
+    record { k = d .result; fewest = d .ensures .1 .0; place = place; bytes = bytes }
 
 pub put-decimal-spec : {M : Type 1} → statement M
 put-decimal-spec =

@@ -35,7 +35,7 @@ waiting-requires : tie.Need-waiting-requires
 waiting-requires c κs = search needs
 
 returns : tie.Need-returns
-returns c = rw (c .before .before .before .what .given .1) (simp (c .mark-by .ensures))
+returns c = rw (c .before .before .before .what .given .1) (simp (c .mark-by .ensures) refl)
 
 returns-2 : tie.Need-returns-2
 returns-2 c = rw (c .before .what2 .given .1) refl

@@ -1,4 +1,5 @@
 -- `waiting` meets its contract.
+use mathlib.Core.Path.{refl}
 use Prim.Native.Nat.{_-_}
 use borrow.Author.Tests.{eq-eqb, ne-eqb, le-leb, lt-leb}
 use borrow.Author.Needs.{needs}
@@ -9,7 +10,9 @@ sub-held : tie.Need-sub-held
 sub-held c = search needs
 
 returns : tie.Need-returns
-returns c = simp (le-leb _ _ (c .if1 .taken))
+returns c =
+    let s = c .before .before .args .state in
+    simp (le-leb (s .len) (s .filled - s .start) (c .if1 .taken)) refl
 
 returns-2 : tie.Need-returns-2
 returns-2 c = simp (lt-leb _ _ (c .before .before .if1 .left), c .before .if2 .taken, eq-eqb _ _ (c .if3 .taken))

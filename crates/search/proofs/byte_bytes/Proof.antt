@@ -2,6 +2,7 @@
 use Rattle.search.proofs.Laws.{first-out, byte-here, byte-more}
 use Rattle.search.specs.First.{firstFrom, isByte}
 use lib.ListN.{length}
+use denote.Ref.{now}
 use borrow.Author.Needs.{needs}
 use native.Mathlib.Omega.{arith}
 use Prim.Native.Nat.{_-_}
@@ -22,7 +23,10 @@ shared-slice-read-if1 : tie.Need-shared-slice-read-if1 Inv-loop μ-loop
 shared-slice-read-if1 c = search needs
 
 returns : tie.Need-returns Inv-loop μ-loop
-returns c = byte-here _ _ _ (omega arith) (c .if1 .taken) ∙ c .before .before .before .loop .inv
+returns c =
+    let a = c .before .before .before .before .args in
+    let l = c .before .before .before .loop in
+    byte-here (a .b) (now (a .s)) (l .p) (omega arith) (c .if1 .taken) ∙ l .inv
 
 add-p : tie.Need-add-p Inv-loop μ-loop
 add-p c = search needs
@@ -31,7 +35,10 @@ loop-less : tie.Need-loop-less Inv-loop μ-loop
 loop-less c = search needs
 
 loop-again : tie.Need-loop-again Inv-loop μ-loop
-loop-again c = byte-more _ _ _ (omega arith) (c .if1 .left) ∙ c .before .before .before .loop .inv
+loop-again c =
+    let a = c .before .before .before .before .args in
+    let l = c .before .before .before .loop in
+    byte-more (a .b) (now (a .s)) (l .p) (omega arith) (c .if1 .left) ∙ l .inv
 
 returns-2 : tie.Need-returns-2 Inv-loop μ-loop
 returns-2 c = first-out (isByte _) _ _ (omega arith) ∙ c .before .loop .inv

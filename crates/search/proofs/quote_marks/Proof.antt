@@ -1,9 +1,10 @@
 -- `quote_marks` meets its contract: the masks mark each byte by itself.
-use Rattle.search.proofs.Masks.{quotes, quoted}
+use Rattle.search.proofs.Masks.{filled, quotes, quoted}
+use Rattle.word.proofs.Bytewise.{the}
 use lib.Bits.{bitAnd, bitXor}
 use native.Mathlib.Omega.{arith}
 use Prim.Native.Nat.{ℕ}
-use mathlib.Core.Path.{ap, ap₂, _∙_}
+use mathlib.Core.Path.{_≡_, ap, ap₂, _∙_}
 use borrow.Author.Needs.{needs}
 use Rattle.search.proofs.quote_marks.Statement.{statement}
 use Rattle.search.proofs.quote_marks.Tie as tie
@@ -19,7 +20,10 @@ filled-requires-2 c κs = search needs
 
 returns : tie.Need-returns
 returns c =
-    ap₂ (λ (x y : ℕ). bitXor (bitAnd (bitAnd x y) 9259542123273814144) 9259542123273814144) (c .before .filled .ensures) (c .filled2 .ensures)
+    let w = c .before .before .word-at .result in
+    let quote : _ ≡ filled the 8 (bitXor w 0x2222_2222_2222_2222) = c .before .filled .ensures in
+    let backslash : _ ≡ filled the 8 (bitXor w 0x5c5c_5c5c_5c5c_5c5c) = c .filled2 .ensures in
+    ap₂ (λ (x y : ℕ). bitXor (bitAnd (bitAnd x y) 9259542123273814144) 9259542123273814144) quote backslash
     ∙ ap (quotes 8) (c .before .before .word-at .ensures)
     ∙ quoted _ (λ i. omega (arith, c .before .before .before .shared-slice-known .given i)) 8 _
 

@@ -3,6 +3,7 @@ use mathlib.Core.Path.{_≡_, _∙_, sym}
 use native.Mathlib.Omega.{arith}
 use denote.Ref.{now}
 use lib.ListN.{getD}
+use Rattle.token.specs.Marks.{markAt}
 use Rattle.token.proofs.Marks.{mark-inside}
 use Rattle.text.proofs.Laws.{is-quoted, is-word, is-number, is-plain, is-mark}
 use borrow.Author.Needs.{needs}
@@ -69,7 +70,8 @@ returns-5 c =
     let x = c .before .before .before .before .before .before .before .before .before .args in
     let s = now (x .input) in
     let b = getD s (x .p) 0 in
-    c .mark-at .ensures ∙ mark-inside s (x .p) (omega arith)
+    let mark : _ ≡ markAt s (x .p) = c .mark-at .ensures in
+    mark ∙ mark-inside s (x .p) (omega arith)
     ∙ sym
     (is-mark s (x .p) b (c .before .before .before .before .before .before .if1 .left) (c .before .before .before .before .before .if2 .left) (sym (c .before .before .before .before .starts-number .ensures) ∙ c .before .before .before .if3 .left) (sym (c .before .before .starts-plain .ensures) ∙ c .before .if4 .left))
 

@@ -1,7 +1,8 @@
 -- `text_string_bytes` meets its contract.
-use mathlib.Core.Path.{refl, sym, ap, _∙_}
+use mathlib.Core.Path.{_≡_, refl, sym, ap, _∙_}
 use denote.Ref.{now}
 use Rattle.token.specs.Strings.{bytesAnswer, bytesWritten}
+use Rattle.blanks.specs.Skip.{skipFrom}
 use Rattle.strings.proofs.Laws.{handed}
 use Rattle.text.specs.Strings.{stringStartedAt}
 use Rattle.text.proofs.Laws.{string-beyond, string-from}
@@ -28,7 +29,8 @@ returns-2 : tie.Need-returns-2
 returns-2 c =
     let x = c .before .before .before .before .before .before .before .before .args in
     let s = now (x .input) in
-    let e = ap (stringStartedAt s) (c .before .before .before .before .skip-ignored .ensures) ∙ sym (string-from s (x .at) (c .before .before .before .before .before .if1 .left)) in
+    let first : _ ≡ skipFrom s (x .at) = c .before .before .before .before .skip-ignored .ensures in
+    let e = ap (stringStartedAt s) first ∙ sym (string-from s (x .at) (c .before .before .before .before .before .if1 .left)) in
     handed (now (x .out)) e (c .before .before .first-bytes .ensures)
 
 pub text-string-bytes-spec : {M : Type 1} → statement M

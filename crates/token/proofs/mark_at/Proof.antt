@@ -1,8 +1,9 @@
 -- `mark_at` meets its contract.
-use mathlib.Core.Path.{_∙_, sym, ap}
+use mathlib.Core.Path.{_≡_, _∙_, sym, ap}
 use native.Mathlib.Omega.{arith}
+use lib.ListN.{getD}
 use denote.Ref.{now}
-use Rattle.token.specs.Marks.{ofMark}
+use Rattle.token.specs.Marks.{markOf, ofMark}
 use Rattle.token.proofs.Marks.{mark-beyond, mark-ended, mark-inside}
 use borrow.Author.Needs.{needs}
 use Rattle.token.proofs.mark_at.Statement.{statement}
@@ -36,12 +37,14 @@ enum-told c = search needs
 returns-3 : tie.Need-returns-3
 returns-3 c =
     let x = c .before .before .before .before .before .before .before .before .args in
-    ap (ofMark (x .at)) (sym (c .before .token .given .1) ∙ c .before .before .before .mark-of .ensures) ∙ sym (mark-inside (now (x .input)) (x .at) (omega arith))
+    let mark : _ ≡ markOf (getD (now (x .input)) (x .at) 0) = c .before .before .before .mark-of .ensures in
+    ap (ofMark (x .at)) (sym (c .before .token .given .1) ∙ mark) ∙ sym (mark-inside (now (x .input)) (x .at) (omega arith))
 
 returns-4 : tie.Need-returns-4
 returns-4 c =
     let x = c .before .before .before .before .before .before .before .args in
-    ap (ofMark (x .at)) (sym (c .enum-told .given .1) ∙ c .before .before .mark-of .ensures) ∙ sym (mark-inside (now (x .input)) (x .at) (omega arith))
+    let mark : _ ≡ markOf (getD (now (x .input)) (x .at) 0) = c .before .before .mark-of .ensures in
+    ap (ofMark (x .at)) (sym (c .enum-told .given .1) ∙ mark) ∙ sym (mark-inside (now (x .input)) (x .at) (omega arith))
 
 pub mark-at-spec : {M : Type 1} → statement M
 mark-at-spec =

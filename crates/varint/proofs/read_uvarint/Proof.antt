@@ -16,7 +16,10 @@ abbrev μ-loop : tie.MeasureT-loop
 μ-loop input at left value₀ weight₀ i₀ value weight i = 9 - i
 
 returns : tie.Need-returns Inv-loop μ-loop
-returns c = sym (at-beyond _ _ (c .if1 .taken))
+returns c =
+    let a = c .before .before .args in
+    let beyond = sym (at-beyond (now (a .input)) (a .at) (c .if1 .taken)) in
+    beyond
 
 sub-left : tie.Need-sub-left Inv-loop μ-loop
 sub-left c = c .if1 .left

@@ -26,7 +26,9 @@ returns-2 : tie.Need-returns-2
 returns-2 c =
     let b = c .before in
     let n = b .before .before in
-    sym (ten-wide _ _ (n .before .before .pre .0) (n .if1 .left) (b .wide .result) (b .wide .ensures) (c .if2 .taken))
+    let a = n .before .before .args in
+    let refused = sym (ten-wide (now (a .input)) (a .at) (n .before .before .pre .0) (n .if1 .left) (b .wide .result) (b .wide .ensures) (c .if2 .taken)) in
+    refused
 
 mul-t12 : tie.Need-mul-t12
 mul-t12 c = search needs

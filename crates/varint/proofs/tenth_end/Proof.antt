@@ -27,12 +27,14 @@ add-result c = search needs
 returns-2 : tie.Need-returns-2
 returns-2 c =
     let n = c .before .before in
-    sym (ten-end _ _ (n .before .pre) (n .if1 .left) (c .if2 .taken))
+    let a = n .before .args in
+    sym (ten-end (now (a .input)) (a .at) (n .before .pre) (n .if1 .left) (c .if2 .taken))
 
 returns-3 : tie.Need-returns-3
 returns-3 c =
     let n = c .before .before in
-    sym (ten-no-end _ _ (n .before .pre) (n .if1 .left) (c .if2 .left) (c .before .shared-slice-known .given (n .before .args .at + 9) .fits))
+    let a = n .before .args in
+    sym (ten-no-end (now (a .input)) (a .at) (n .before .pre) (n .if1 .left) (c .if2 .left) (c .before .shared-slice-known .given (a .at + 9) .fits))
 
 pub tenth-end-spec : {M : Type 1} → statement M
 tenth-end-spec = tie.close (tie.spec sub-left returns add-if2 shared-slice-read-if2 add-result returns-2 returns-3)

@@ -7,7 +7,7 @@ use borrow.Author.Tests.{not-true, not-false}
 use denote.Ref.{now}
 use lib.ListN.{length}
 use lib.Seq.{length-slice}
-use Rattle.blocks.specs.Readings.{Reached, readFrom, binary, runMeaning}
+use Rattle.blocks.specs.Readings.{Reached, passOf, readFrom, binary, runMeaning}
 use Rattle.blocks.proofs.Laws.{binary-grows, pass-few}
 use Rattle.reader.specs.declared.State.{State}
 use Rattle.reader.specs.Fits.{Fitting}
@@ -26,10 +26,11 @@ skipped-at c = rw (c .skipped .ensures) (skipped-fits (c .before .before .before
 
 run-is : (c : tie.After-pass) → runMeaning (c .pass .result) ≡ readOf binary (c .before .before .before .skipped .result) (now (c .before .before .before .before .before .before .before .args .buf))
 run-is c =
-    c .pass .ensures
-    ∙ pass-few _ _ _ (skipped-at (c .before .before .before) .depth)
-    ∙ ap (λ (l : List ℕ). readFrom l (c .before .before .before .skipped .result .place - c .before .before .before .skipped .result .start) (c .before .before .before .skipped .result .blocks))
-    (part-is (c .before .before .before .skipped .result .start) (c .before .before .before .skipped .result .filled) (now (c .before .before .before .before .before .before .before .args .buf)))
+    let s = c .before .before .before .skipped .result in
+    let passed : _ ≡ passOf _ (s .place - s .start) (s .blocks) = c .pass .ensures in
+    passed ∙ pass-few _ _ _ (skipped-at (c .before .before .before) .depth)
+    ∙ ap (λ (l : List ℕ). readFrom l (s .place - s .start) (s .blocks))
+    (part-is (s .start) (s .filled) (now (c .before .before .before .before .before .before .before .args .buf)))
 
 fits-together-requires : tie.Need-fits-together-requires
 fits-together-requires c κs = search needs

@@ -13,7 +13,9 @@ refusal-of-requires : tie.Need-refusal-of-requires
 refusal-of-requires c κs = search needs
 
 returns : tie.Need-returns
-returns c = c .refusal-of .ensures ∙ ap (λ (k : ℕ). namedBy k (c .before .before .args .to)) (c .before .number .ensures)
+returns c =
+    let named : _ ≡ namedBy (c .before .number .result) (c .before .before .args .to) = c .refusal-of .ensures in
+    named ∙ ap (λ (k : ℕ). namedBy k (c .before .before .args .to)) (c .before .number .ensures)
 
 pub moved-spec : {M : Type 1} → statement M
 moved-spec = tie.close (tie.spec number-requires refusal-of-requires returns)
