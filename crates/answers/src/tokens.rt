@@ -17,20 +17,26 @@ fn put_extent(out: &mut [u8], n: usize, word: &[u8], start: usize, len: usize) -
     output::put_decimal(out, c, len as u64)
 }
 
+// The byte of a token of one byte.
+fn mark_byte(token: Token) -> u8 {
+    match token {
+        Token::BeginAttributes => b'<',
+        Token::EndAttributes => b'>',
+        Token::BeginList => b'[',
+        Token::EndList => b']',
+        Token::BeginMap => b'{',
+        Token::EndMap => b'}',
+        Token::Entity => b'#',
+        Token::KeyValueSeparator => b'=',
+        Token::ItemSeparator => b';',
+        _ => b'?',
+    }
+}
+
 // A token of one byte.
 fn put_mark(out: &mut [u8], n: usize, token: Token) -> usize {
-    match token {
-        Token::BeginAttributes => output::put_word(out, n, b"<"),
-        Token::EndAttributes => output::put_word(out, n, b">"),
-        Token::BeginList => output::put_word(out, n, b"["),
-        Token::EndList => output::put_word(out, n, b"]"),
-        Token::BeginMap => output::put_word(out, n, b"{"),
-        Token::EndMap => output::put_word(out, n, b"}"),
-        Token::Entity => output::put_word(out, n, b"#"),
-        Token::KeyValueSeparator => output::put_word(out, n, b"="),
-        Token::ItemSeparator => output::put_word(out, n, b";"),
-        _ => output::put_word(out, n, b"no mark"),
-    }
+    let byte = [mark_byte(token)];
+    output::put_word(out, n, &byte)
 }
 
 // A number that is not below nought, behind its word.

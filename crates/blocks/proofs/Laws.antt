@@ -17,22 +17,21 @@ use Rattle.token.specs.declared.Kind.{Kind}
 use Rattle.token.specs.Ends.{endOf}
 use Rattle.binary.specs.Binary.{binaryFrom}
 use Rattle.lexer.specs.Lexer.{kindAt}
-use Rattle.scan.specs.Step.{list, map, attributes, Step, go, finished, wrong, deep, step}
-use Rattle.scan.specs.Step as automaton
-use Rattle.blocks.specs.declared.Blocks.{Blocks}
+use Rattle.automaton.specs.Step.{list, map, attributes, Step, go, finished, wrong, deep, step}
+use Rattle.automaton.specs.Step as automaton
+use Rattle.kept.specs.declared.Blocks.{Blocks}
 use Rattle.blocks.specs.declared.Move.{Move}
 use Rattle.refusal.specs.Numbers.{tooDeep}
 use Rattle.refusal.specs.Meaning.{refusalMeaning, namedBy}
-use Rattle.scan.specs.Limit.{mostOpen}
-use Rattle.scan.proofs.Named.{wrong-named}
-use Rattle.scan.proofs.One.{named-means}
+use Rattle.automaton.specs.Limit.{mostOpen}
+use Rattle.automaton.proofs.Named.{wrong-named, named-means}
 use lib.ListN.{set}
-use Rattle.blocks.specs.declared.Due.{Due}
-use Rattle.blocks.specs.declared.Due.the-variants.{Value, Object, Item, Key, Equals}
+use Rattle.kept.specs.declared.Due.{Due}
+use Rattle.kept.specs.declared.Due.the-variants.{Value, Object, Item, Key, Equals}
 use Rattle.blocks.specs.declared.Move.the-variants.{OpenList, OpenMap, OpenAttributes, CloseItem, CloseKey, CloseObject, Stay, ToItem, ToKey, ToEquals, ToValue, Finish, Wrong, Deep}
-use Rattle.blocks.specs.Kept.{dueOf, blocksOf, blocksThen, noBlocks, openIn, byteOf}
-use Rattle.blocks.proofs.Stack.{blocks, then-open, then-close, then-keep}
-use Rattle.blocks.specs.Moves.{kindBy, around, wrongBy, stepOf, Apt, Moves}
+use Rattle.kept.specs.Kept.{around, dueOf, blocksOf, blocksThen, noBlocks, openIn, byteOf}
+use Rattle.kept.proofs.Stack.{blocks, then-open, then-close, then-keep}
+use Rattle.blocks.specs.Moves.{kindBy, wrongBy, stepOf, Apt, Moves}
 use Rattle.blocks.specs.Readings.{Reached, reached, Reader, Grows, Onward, onStep, onToken, readFor, readOn, readFrom, passOf, binary, notWhole}
 use Rattle.blocks.specs.Stops.{movedBy, keptBy}
 use Rattle.blocks.specs.declared.Stop.{Stop}

@@ -9,9 +9,9 @@ use borrow.Author.Tests.{lt-ltb, le-ltb}
 use Rattle.refusal.specs.Paper.{Paper, gives, more, refused, Spot, spot}
 use Rattle.refusal.proofs.Cases.{either}
 use Rattle.token.specs.declared.Kind.{Kind}
-use Rattle.scan.specs.Step.{Step, go, finished, wrong, deep, step}
-use Rattle.blocks.specs.declared.Blocks.{Blocks}
-use Rattle.blocks.specs.Kept.{dueOf, blocksOf, blocksThen}
+use Rattle.automaton.specs.Step.{Step, go, finished, wrong, deep, step}
+use Rattle.kept.specs.declared.Blocks.{Blocks}
+use Rattle.kept.specs.Kept.{dueOf, blocksOf, blocksThen}
 use Rattle.blocks.specs.Readings.{Reached, reached, Reader, Grows, Onward, onStep, onToken, readFor, readOn, readBy}
 
 -- the place is at p or behind it and within the bytes, and a whole record ends behind p and within the bytes

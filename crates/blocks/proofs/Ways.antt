@@ -13,18 +13,18 @@ use Rattle.refusal.specs.Paper.{pick}
 use Rattle.refusal.proofs.Cases.{either}
 use Rattle.token.specs.declared.Kind.{Kind}
 use Rattle.token.specs.declared.Kind.the-variants as kind
-use Rattle.scan.specs.Limit.{mostOpen}
-use Rattle.scan.specs.Step.{list, map, attributes, value, object, item, key, equals, Step, go, wrong, after, closed, opened, onObject, onValue, onItem, onKey, onEquals, endList, endMap, endAttributes, step}
-use Rattle.scan.specs.Step as automaton
-use Rattle.scan.proofs.Arms.{too-deep, not-deep}
-use Rattle.blocks.specs.declared.Due.{Due}
+use Rattle.automaton.specs.Limit.{mostOpen}
+use Rattle.automaton.specs.Step.{list, map, attributes, value, object, item, key, equals, Step, go, wrong, after, closed, opened, onObject, onValue, onItem, onKey, onEquals, endList, endMap, endAttributes, step}
+use Rattle.automaton.specs.Step as automaton
+use Rattle.automaton.proofs.Opened.{too-deep, not-deep}
+use Rattle.kept.specs.declared.Due.{Due}
 use Rattle.blocks.specs.declared.Move.{Move}
 use Rattle.blocks.specs.declared.Move.the-variants.{OpenList, OpenMap, OpenAttributes, CloseItem, CloseKey, CloseObject, Stay, ToItem, ToKey, ToEquals, ToValue, Finish, Wrong, Deep}
-use Rattle.blocks.specs.Kept.{openIn, dueOf}
-use Rattle.blocks.specs.Moves.{kindBy, around, valueDue, wrongBy, roomFor, beginsValue, Apt, Moves, Follows}
+use Rattle.kept.specs.Kept.{around, openIn, dueOf}
+use Rattle.blocks.specs.Moves.{kindBy, valueDue, wrongBy, roomFor, beginsValue, Apt, Moves, Follows}
 use Rattle.blocks.specs.Stops.{blocksWith, movedBy}
 use Rattle.blocks.proofs.Move.{the-type}
-use Rattle.blocks.proofs.Stack.{open-none, open-some, on-list, on-map, on-attributes, around-is, after-other, list-other, map-other}
+use Rattle.kept.proofs.Stack.{open-none, open-some, on-list, on-map, on-attributes, around-is, after-other, list-other, map-other}
 
 module _ {K : List automaton.Block} {n : ℕ} where
   -- the same move for an equal step

@@ -9,13 +9,13 @@ use Rattle.refusal.specs.Numbers.{notValue, notKey, notEquals}
 use Rattle.refusal.specs.Paper.{pick}
 use Rattle.token.specs.declared.Kind.{Kind}
 use Rattle.token.specs.declared.Kind.the-variants as kind
-use Rattle.scan.specs.Limit.{mostOpen}
-use Rattle.scan.specs.Step as automaton
-use Rattle.scan.specs.Step.{list, map, attributes, value, object, item, key, equals, Step, go, finished, wrong, deep, step}
-use Rattle.blocks.specs.declared.Due.{Due}
+use Rattle.automaton.specs.Limit.{mostOpen}
+use Rattle.automaton.specs.Step as automaton
+use Rattle.automaton.specs.Step.{list, map, attributes, value, object, item, key, equals, Step, go, finished, wrong, deep, step}
+use Rattle.kept.specs.declared.Due.{Due}
 use Rattle.blocks.specs.declared.Move.{Move}
 use Rattle.blocks.specs.declared.Move.the-variants.{OpenList, OpenMap, OpenAttributes, CloseItem, CloseKey, CloseObject, Stay, ToItem, ToKey, ToEquals, ToValue, Finish, Wrong, Deep}
-use Rattle.blocks.specs.Kept.{dueOf}
+use Rattle.kept.specs.Kept.{dueOf, around}
 
 -- the kind of a whole binary token, by its first byte
 unfoldable pub kindBy : ℕ → Kind
@@ -29,11 +29,6 @@ kindBy b =
     (pick (eqb b 0x3D) kind.Equals
     (pick (eqb b 0x3B) kind.Semicolon
     (pick (eqb b 0x01) kind.Text kind.Scalar))))))))
-
--- the blocks around the innermost
-abbrev pub around : List automaton.Block → List automaton.Block
-around [] = []
-around (x ∷ K) = K
 
 -- a value is due, with attributes or without
 abbrev pub valueDue : automaton.Due → Bool

@@ -12,13 +12,13 @@ use Rattle.refusal.specs.Meaning.{refusalMeaning}
 use Rattle.refusal.specs.declared.Format.the-variants.{Binary}
 use Rattle.token.specs.declared.Kind.{Kind}
 use Rattle.lexer.specs.Lexer.{kindAt}
-use Rattle.scan.specs.Limit.{mostOpen}
-use Rattle.scan.specs.Step.{Step, go, finished, wrong, deep, step}
-use Rattle.blocks.specs.declared.Blocks.{Blocks}
+use Rattle.automaton.specs.Limit.{mostOpen}
+use Rattle.automaton.specs.Step.{Step, go, finished, wrong, deep, step}
+use Rattle.kept.specs.declared.Blocks.{Blocks}
 use Rattle.blocks.specs.declared.What.{What}
 use Rattle.blocks.specs.declared.What.the-variants.{Whole, Unfinished, Refused}
 use Rattle.blocks.specs.declared.Run.{Run}
-use Rattle.blocks.specs.Kept.{dueOf, blocksOf, blocksThen, noBlocks}
+use Rattle.kept.specs.Kept.{dueOf, blocksOf, blocksThen, noBlocks}
 
 -- where readings stop: the end of the last token passed, how many readings were made, the open blocks there, and the answer: where the
 -- record ends, more bytes are needed, or a refusal with its place

@@ -8,16 +8,16 @@ use Rattle.refusal.specs.Paper.{Paper, gives, more, refused}
 use Rattle.refusal.specs.Meaning.{refusalMeaning, namedBy}
 use Rattle.refusal.specs.declared.Format.the-variants.{Binary}
 use Rattle.lexer.specs.Lexer.{kindAt}
-use Rattle.blocks.specs.declared.Blocks.{Blocks}
-use Rattle.blocks.specs.declared.Due.{Due}
-use Rattle.blocks.specs.declared.Due.the-variants.{Value, Object, Item, Key, Equals}
+use Rattle.kept.specs.declared.Blocks.{Blocks}
+use Rattle.kept.specs.declared.Due.{Due}
+use Rattle.kept.specs.declared.Due.the-variants.{Value, Object, Item, Key, Equals}
 use Rattle.blocks.specs.declared.Move.{Move}
 use Rattle.blocks.specs.declared.Move.the-variants.{OpenList, OpenMap, OpenAttributes, CloseItem, CloseKey, CloseObject, Stay, ToItem, ToKey, ToEquals, ToValue, Finish}
 use Rattle.blocks.specs.declared.Move.the-variants as move
 use Rattle.blocks.specs.declared.Stop.{Stop}
 use Rattle.blocks.specs.declared.Stop.the-variants.{Ended, Unread, Whole, Wrong, Deep}
 use Rattle.blocks.specs.declared.Halt.{Halt}
-use Rattle.blocks.specs.Kept.{listByte, mapByte, attributesByte, dueOf, noBlocks}
+use Rattle.kept.specs.Kept.{listByte, mapByte, attributesByte, dueOf, noBlocks}
 use Rattle.blocks.specs.Moves.{wrongBy}
 use Rattle.blocks.specs.Readings.{Reached, reached, notWhole}
 

@@ -1,50 +1,21 @@
 // What do the tokens of a record do to its open blocks, and how far do they go? `pass` reads them from a kept place on, and
-// specs/Readings.antt decides it with the automaton of crate `scan`. The open blocks are kept between pieces, one byte for each.
+// specs/Readings.antt decides it with the automaton of crate `scan`. Crate `kept` says how the open blocks are kept between pieces.
 ghost use mathlib.Core.Path.{_≡_};
 ghost use Prim.Native.Nat.{_≤_, _<_};
 ghost use lib.ListN.{length};
 ghost use Rattle.lexer.specs.Lexer.{kindAt};
 ghost use Rattle.refusal.specs.declared.Format.the-variants.{Binary};
-ghost use Rattle.scan.specs.Limit.{mostOpen};
-ghost use Rattle.scan.specs.Step.{after, step};
+ghost use Rattle.automaton.specs.Limit.{mostOpen};
+ghost use Rattle.automaton.specs.Step.{after, step};
 ghost use Rattle.token.specs.declared.Kind.the-variants as kind;
-ghost use Rattle.blocks.specs.Kept.{dueOf, openIn, noBlocks, kindsKnown, takes, blocksFit};
-ghost use Rattle.blocks.specs.Moves.{kindBy, around, valueDue, wrongBy, Apt, Moves, Follows, Anywhere, Among, roomFor, beginsValue};
+ghost use Rattle.kept.specs.Kept.{dueOf, openIn, around};
+ghost use Rattle.blocks.specs.Moves.{kindBy, valueDue, wrongBy, Apt, Moves, Follows, Anywhere, Among, roomFor, beginsValue};
 ghost use Rattle.blocks.specs.Readings.{passOf, readFrom, runMeaning, whatMeaning, notWhole};
 ghost use Rattle.blocks.specs.Stops.{blocksWith, movedBy, Answers, Inside, Halts};
+use kept::Blocks;
+use kept::Due;
 use refusal::Refusal;
 use token::Read;
-
-// How many blocks may be open at once.
-const MOST_OPEN: usize = 128;
-
-// The bytes of the kinds of block.
-const LIST: u8 = 1;
-
-const MAP: u8 = 2;
-
-const ATTRIBUTES: u8 = 3;
-
-// The part that is due.
-pub enum Due {
-    // A value, with attributes or without.
-    Value,
-    // A value whose attributes are passed.
-    Object,
-    // A value, `;` or `]`.
-    Item,
-    // A key, `;` or the block's end.
-    Key,
-    // `=`
-    Equals,
-}
-
-// The open blocks: how many, what is due in the innermost, and a byte for the kind of each, the outermost first.
-pub struct Blocks {
-    pub depth: usize,
-    pub due: Due,
-    pub kinds: [u8; 128],
-}
 
 // What a token does to the open blocks.
 pub enum Move {
@@ -120,78 +91,6 @@ pub struct Halt {
     pub stop: Stop,
 }
 
-// No block is open, and a value is due.
-pub fn no_blocks() -> Blocks
-    ensures { λ r. ⌜ r ≡ noBlocks ⌝ }
-{
-    Blocks {
-        depth: 0,
-        due: Due::Value,
-        kinds: [0u8; 128],
-    }
-}
-
-// Whether each open block has a kind that there is.
-fn kinds_known(kinds: &[u8; 128], depth: usize) -> bool
-    requires { ⌜ depth ≤ mostOpen ⌝ }
-    ensures { λ r. ⌜ r ≡ kindsKnown depth (now (kinds .entry)) ⌝ }
-{
-    let mut i = depth;
-    while 0 < i {
-        i -= 1;
-        let k = kinds[i];
-        if k == 0 {
-            return false;
-        }
-        if ATTRIBUTES < k {
-            return false;
-        }
-    }
-    true
-}
-
-// Whether the innermost block, or none, takes the part that is due.
-fn due_fits(kinds: &[u8; 128], depth: usize, due: Due) -> bool
-    requires { ⌜ depth ≤ mostOpen ⌝ }
-    ensures { λ r. ⌜ r ≡ takes (openIn depth (now (kinds .entry))) (dueOf due) ⌝ }
-{
-    if depth == 0 {
-        return match due {
-            Due::Value | Due::Object => true,
-            Due::Item | Due::Key | Due::Equals => false,
-        };
-    }
-    if kinds[depth - 1] == LIST {
-        return match due {
-            Due::Object | Due::Item => true,
-            Due::Value | Due::Key | Due::Equals => false,
-        };
-    }
-    match due {
-        Due::Value | Due::Object | Due::Key | Due::Equals => true,
-        Due::Item => false,
-    }
-}
-
-// Whether these blocks can be open behind `passed` bytes of a record.
-pub fn blocks_fit(blocks: Blocks, passed: usize) -> bool
-    ensures { λ r. ⌜ r ≡ blocksFit blocks passed ⌝ }
-{
-    let depth = blocks.depth;
-    let due = blocks.due;
-    let kinds = blocks.kinds;
-    if MOST_OPEN < depth {
-        return false;
-    }
-    if passed < depth {
-        return false;
-    }
-    if !kinds_known(&kinds, depth) {
-        return false;
-    }
-    due_fits(&kinds, depth, due)
-}
-
 // A whole value in the open blocks.
 fn whole(kinds: &[u8; 128], depth: usize) -> Move
     requires { ⌜ depth ≤ mostOpen ⌝ }
@@ -200,7 +99,7 @@ fn whole(kinds: &[u8; 128], depth: usize) -> Move
     if depth == 0 {
         return Move::Finish;
     }
-    if kinds[depth - 1] == LIST {
+    if kinds[depth - 1] == kept::LIST {
         return Move::ToItem;
     }
     Move::ToKey
@@ -215,7 +114,7 @@ fn ended(kinds: &[u8; 128], depth: usize) -> Move
     if outer == 0 {
         return Move::Finish;
     }
-    if kinds[outer - 1] == LIST {
+    if kinds[outer - 1] == kept::LIST {
         return Move::CloseItem;
     }
     Move::CloseKey
@@ -255,7 +154,7 @@ fn on_equals(due: Due) -> Move
 fn begun(depth: usize, opening: Move) -> Move
     ensures { λ r. ⌜ r ≡ roomFor depth opening ⌝ }
 {
-    if depth == MOST_OPEN {
+    if depth == kept::MOST_OPEN {
         return Move::Deep;
     }
     opening
@@ -292,7 +191,7 @@ fn on_list_end(kinds: &[u8; 128], depth: usize, due: Due) -> Move
             if depth == 0 {
                 return Move::Wrong;
             }
-            if kinds[depth - 1] == LIST {
+            if kinds[depth - 1] == kept::LIST {
                 return ended(kinds, depth);
             }
             Move::Wrong
@@ -311,7 +210,7 @@ fn on_map_end(kinds: &[u8; 128], depth: usize, due: Due) -> Move
             if depth == 0 {
                 return Move::Wrong;
             }
-            if kinds[depth - 1] == MAP {
+            if kinds[depth - 1] == kept::MAP {
                 return ended(kinds, depth);
             }
             Move::Wrong
@@ -331,10 +230,10 @@ fn on_attributes_end(kinds: &[u8; 128], depth: usize, due: Due) -> Move
                 return Move::Wrong;
             }
             let k = kinds[depth - 1];
-            if k == LIST {
+            if k == kept::LIST {
                 return Move::Wrong;
             }
-            if k == MAP {
+            if k == kept::MAP {
                 return Move::Wrong;
             }
             Move::CloseObject
@@ -434,21 +333,21 @@ fn moved(kinds: &mut [u8; 128], depth: usize, due: Due, way: Move) -> Inner
 {
     match way {
         Move::OpenList => {
-            kinds[depth] = LIST;
+            kinds[depth] = kept::LIST;
             Inner {
                 depth: depth + 1,
                 due: Due::Item,
             }
         }
         Move::OpenMap => {
-            kinds[depth] = MAP;
+            kinds[depth] = kept::MAP;
             Inner {
                 depth: depth + 1,
                 due: Due::Key,
             }
         }
         Move::OpenAttributes => {
-            kinds[depth] = ATTRIBUTES;
+            kinds[depth] = kept::ATTRIBUTES;
             Inner {
                 depth: depth + 1,
                 due: Due::Key,
@@ -564,7 +463,7 @@ pub fn pass(blocks: Blocks, input: &[u8], from: usize) -> Run
     ensures { λ r. ⌜ runMeaning r ≡ passOf (now (input .entry)) from blocks ⌝ }
 {
     let count = blocks.depth;
-    if MOST_OPEN < count {
+    if kept::MOST_OPEN < count {
         return Run {
             place: from,
             readings: 0,
@@ -583,7 +482,7 @@ pub fn pass(blocks: Blocks, input: &[u8], from: usize) -> Run
     let what = what_of(stop, input, place, halt.end, due);
     match stop {
         Stop::Whole => {
-            let none = no_blocks();
+            let none = kept::no_blocks();
             Run {
                 place,
                 readings,

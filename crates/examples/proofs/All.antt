@@ -19,7 +19,7 @@ use Rattle.words.specs.Word.{stands as stands-words, wordOf, wordAt}
 use Rattle.text.specs.Strings.{stringStarted, stringStartedAt, textStringAt}
 use Rattle.text.specs.Text.{plainAt, started, startedAt, textFrom, textAt}
 use Rattle.lexer.specs.Lexer.{tokenFrom, tokenAt, kindAt, skipOf, stringAt}
-use Rattle.scan.specs.Step.{after, closed, opened, onObject, onValue, endList, endMap, endAttributes, onItem, onKey, onEquals, step}
+use Rattle.automaton.specs.Step.{after, closed, opened, onObject, onValue, endList, endMap, endAttributes, onItem, onKey, onEquals, step}
 use Rattle.scan.specs.Walk.{arrive, onRead, runFor, walk as walk-scan, scanOf}
 use Rattle.examples.specs.Examples.{answered, rows, Hold}
 

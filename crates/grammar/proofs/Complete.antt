@@ -10,12 +10,13 @@ use Rattle.refusal.specs.declared.Format.{Format}
 use Rattle.token.specs.declared.Kind.{Kind}
 use Rattle.token.specs.declared.Kind.the-variants.{Text, Scalar, OpenList, CloseList, OpenMap, CloseMap, OpenAttributes, CloseAttributes, Equals, Semicolon}
 use Rattle.lexer.specs.Lexer.{kindAt}
-use Rattle.scan.specs.Limit.{mostOpen}
-use Rattle.scan.specs.Step.{Block, list, map, attributes, Due, value, object as object-due, item as item-due, key, equals, Step, go, after, opened, onObject, onValue, onItem, onKey, onEquals, endList, endMap, endAttributes, closed, step}
+use Rattle.automaton.specs.Limit.{mostOpen}
+use Rattle.automaton.specs.Step.{Block, list, map, attributes, Due, value, object as object-due, item as item-due, key, equals, Step, go, after, opened, onObject, onValue, onItem, onKey, onEquals, endList, endMap, endAttributes, closed, step}
 use Rattle.scan.specs.Walk.{arrive, walk, scanOf}
 use Rattle.scan.specs.Post.{blockOf}
 use Rattle.scan.proofs.Laws.{walk-token}
-use Rattle.scan.proofs.Arms.{not-deep, arrive-after, after-key}
+use Rattle.automaton.proofs.Opened.{not-deep}
+use Rattle.scan.proofs.Arms.{arrive-after, after-key}
 use Rattle.grammar.specs.Grammar.{Looseness, Slot, Shape, tree, object, items, pairs, Reads, plain, attributed, string, scalar, a-list, a-map, items-end, item, items-part, pairs-end, pair, pairs-part}
 
 module _ (l : Looseness) (f : Format) (s : List ℕ) where

@@ -13,8 +13,8 @@ use Rattle.token.specs.declared.Kind.{Kind}
 use Rattle.token.specs.declared.Kind.the-variants.{Text, Scalar, OpenList, CloseList, OpenMap, CloseMap, OpenAttributes, CloseAttributes, Equals, Semicolon}
 use Rattle.lexer.specs.Lexer.{kindAt}
 use Rattle.lexer.proofs.Laws.{ends}
-use Rattle.scan.specs.Limit.{mostOpen}
-use Rattle.scan.specs.Step.{Block, list, map, attributes, Due, value, object as object-due, item as item-due, key, equals, Step, go, deep, after, closed, opened, onObject, onValue, onItem, onKey, onEquals, endList, endMap, endAttributes, step}
+use Rattle.automaton.specs.Limit.{mostOpen}
+use Rattle.automaton.specs.Step.{Block, list, map, attributes, Due, value, object as object-due, item as item-due, key, equals, Step, go, deep, after, closed, opened, onObject, onValue, onItem, onKey, onEquals, endList, endMap, endAttributes, step}
 use Rattle.scan.specs.Walk.{arrive, onRead, walk, scanOf}
 use Rattle.scan.proofs.Tokens.{token-grows}
 use Rattle.scan.proofs.Laws.{walk-unfolds, walk-more}

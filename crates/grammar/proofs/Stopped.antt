@@ -13,7 +13,8 @@ use Rattle.refusal.specs.declared.Format.the-variants.{Binary}
 use Rattle.token.specs.declared.Kind.the-variants.{CloseList}
 use Rattle.lexer.specs.Lexer.{kindAt, list-closes}
 use Rattle.lexer.proofs.Laws.{ends, mark-here, skip-binary}
-use Rattle.scan.specs.Step.{Block, Due, value, wrong, onValue, onObject, step, Passed, none}
+use Rattle.automaton.specs.Step.{Block, Due, value, wrong, onValue, onObject, step}
+use Rattle.scan.specs.Stops.{none}
 use Rattle.scan.specs.Walk.{scanOf}
 use Rattle.scan.specs.Stops.{Stop, ran-out, misplaced, Stops}
 use Rattle.scan.proofs.Stops.{scan-stops}

@@ -10,7 +10,7 @@ use Rattle.refusal.specs.Paper.{gives, spot}
 use Rattle.refusal.specs.declared.Format.{Format}
 use Rattle.token.specs.declared.Kind.the-variants.{Text, Scalar, OpenList, CloseList, OpenMap, CloseMap, OpenAttributes, CloseAttributes, Equals, Semicolon}
 use Rattle.lexer.specs.Lexer.{kindAt}
-use Rattle.scan.specs.Limit.{mostOpen}
+use Rattle.automaton.specs.Limit.{mostOpen}
 
 -- how loose a reader is about the separators of a block
 pub record Looseness : Type 0 where

@@ -6,7 +6,8 @@ use mathlib.Core.List.{List, []}
 use Rattle.refusal.specs.Paper.{more, refused}
 use Rattle.refusal.specs.declared.Format.{Format}
 use Rattle.lexer.specs.Lexer.{kindAt}
-use Rattle.scan.specs.Step.{Block, Due, value, Passed}
+use Rattle.automaton.specs.Step.{Block, Due, value}
+use Rattle.scan.specs.Stops.{Passed}
 use Rattle.scan.specs.Stops.{Stop}
 
 -- the bytes ended inside a value: from the first byte, where a value is due, tokens are passed to a place at which one more is due, and

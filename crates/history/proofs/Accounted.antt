@@ -13,9 +13,10 @@ use Rattle.blocks.specs.Readings.{Reached, Reader, Grows}
 use Rattle.reader.specs.declared.State.{State}
 use Rattle.reader.specs.Fits.{fits, Fitting}
 use Rattle.reader.specs.Meaning.{Done, done, Handed, Told, Looked}
-use Rattle.reader.specs.Calls.{newState, openOf, bufferedOf, closeOf, isSeparator, separators, stateAt, skippedOf, readOf, waitOf, handOut, lookOf, nextBy, recordOf}
+use Rattle.reader.specs.Calls.{newState, openOf, bufferedOf, closeOf, stateAt, skippedOf, readOf, waitOf, handOut, lookOf, nextBy}
+use Rattle.buffer.specs.Buffer.{isSeparator, separators, recordOf}
 use Rattle.blocks.proofs.Firsts.{pick-case}
-use Rattle.reader.proofs.Buffer.{seps-le, part-is}
+use Rattle.buffer.proofs.Buffer.{seps-le, part-is}
 use Rattle.reader.proofs.Shell.{fitting, skipped-fits, within, next-strange, next-looks}
 use Rattle.history.specs.History.{Call, offer, next, close, Part, record-at, skipped, Came, came, partsOf, callOf, andThen, run, bytesOf, allOf, AllSeparators, InOrder, Accounted}
 use Rattle.history.proofs.Offers.{Offering, accepted, turned-away, offering, offered-buffered}

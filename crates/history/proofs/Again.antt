@@ -11,14 +11,15 @@ use lib.Seq.{length-slice}
 use borrow.Author.Tests.{eqb-true, le-ltb}
 use Rattle.refusal.specs.Numbers.{malformedRecord, cutShort, recordTooLong, strangeState}
 use Rattle.refusal.specs.Paper.{Paper, gives, more, refused}
-use Rattle.blocks.specs.Kept.{noBlocks}
+use Rattle.kept.specs.Kept.{noBlocks}
 use Rattle.blocks.specs.Readings.{Reached, Reader, Grows}
 use Rattle.blocks.proofs.Ranged.{ranged}
 use Rattle.reader.specs.declared.State.{State}
 use Rattle.reader.specs.declared.Mark.{Mark}
 use Rattle.reader.specs.Fits.{heldOf, fits}
 use Rattle.reader.specs.Meaning.{Done, Handed, handed, ended, Told, told, Looked, looked}
-use Rattle.reader.specs.Calls.{newState, openOf, bufferedOf, offerOf, bufferOf, closeOf, separators, stateAt, skippedOf, readOf, handOut, lookOf, nextBy}
+use Rattle.reader.specs.Calls.{newState, openOf, bufferedOf, offerOf, bufferOf, closeOf, stateAt, skippedOf, readOf, handOut, lookOf, nextBy}
+use Rattle.buffer.specs.Buffer.{separators}
 use Rattle.blocks.proofs.Firsts.{pick-case}
 use Rattle.reader.proofs.Shell.{fitting, skipped-fits, within, next-strange, next-looks}
 use Rattle.reader.proofs.Refusing.{no-len, no-low}

@@ -11,13 +11,12 @@ use lib.Seq.{getD-set-same, getD-set-other}
 use borrow.Author.Tests.{ltb-true}
 use Rattle.token.specs.declared.Kind.{Kind}
 use Rattle.token.specs.declared.Kind.the-variants.{Text, Scalar, OpenList, CloseList, OpenMap, CloseMap, OpenAttributes, CloseAttributes, Equals, Semicolon}
-use Rattle.scan.specs.Limit.{mostOpen}
-use Rattle.scan.specs.Step.{Block, list, map, attributes, Due, value, object, item, key, equals, Step, go, finished, wrong, deep, after, closed, opened, onObject, onValue, onItem, onKey, onEquals, endList, endMap, endAttributes, step}
-use Rattle.blocks.specs.declared.Blocks.{Blocks}
-use Rattle.blocks.specs.Kept.{blockOf, byteOf, openIn, blocksOf, dueOf, keptDue, noBlocks, blocksThen, kindsKnown, takes, dueFits}
-use Rattle.blocks.specs.Moves.{around}
-use Rattle.blocks.specs.declared.Due as declared
-use Rattle.blocks.proofs.Stack.{blocks, open-length, around-is, known-byte, known-less, then-open, then-close, then-keep}
+use Rattle.automaton.specs.Limit.{mostOpen}
+use Rattle.automaton.specs.Step.{Block, list, map, attributes, Due, value, object, item, key, equals, Step, go, finished, wrong, deep, after, closed, opened, onObject, onValue, onItem, onKey, onEquals, endList, endMap, endAttributes, step}
+use Rattle.kept.specs.declared.Blocks.{Blocks}
+use Rattle.kept.specs.Kept.{around, blockOf, byteOf, openIn, blocksOf, dueOf, keptDue, noBlocks, blocksThen, kindsKnown, takes, dueFits}
+use Rattle.kept.specs.declared.Due as declared
+use Rattle.kept.proofs.Stack.{blocks, open-length, around-is, known-byte, known-less, then-open, then-close, then-keep}
 use Rattle.blocks.proofs.Firsts.{pick-case}
 use Rattle.history.specs.Facts.{Slotted}
 

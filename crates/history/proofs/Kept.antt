@@ -11,16 +11,17 @@ use lib.Seq.{slice, length-slice}
 use borrow.Author.Tests.{eqb-true, leb-true, ltb-false}
 use Rattle.refusal.specs.Numbers.{strangeState}
 use Rattle.refusal.specs.Paper.{Paper, gives, more, refused}
-use Rattle.blocks.specs.declared.Blocks.{Blocks}
-use Rattle.blocks.specs.Kept.{kindsKnown, depthWithin, depthWithinPassed, dueFits, blocksFit}
+use Rattle.kept.specs.declared.Blocks.{Blocks}
+use Rattle.kept.specs.Kept.{kindsKnown, depthWithin, depthWithinPassed, dueFits, blocksFit}
 use Rattle.blocks.specs.Readings.{Reached, Reader, Grows}
-use Rattle.blocks.proofs.Stack.{by-due}
+use Rattle.kept.proofs.Stack.{by-due}
 use Rattle.reader.specs.declared.State.{State}
 use Rattle.reader.specs.Fits.{leastBuffer, mostBuffer, mostOffset, heldOf, fits, Fitting}
 use Rattle.reader.specs.Meaning.{Done, done, Told, told, Looked}
-use Rattle.reader.specs.Calls.{openOf, bufferedOf, offerOf, bufferOf, shutState, closeOf, separators, stateAt, skippedOf, readOf, waitOf, handOut, lookOf, nextBy}
+use Rattle.reader.specs.Calls.{openOf, bufferedOf, offerOf, bufferOf, shutState, closeOf, stateAt, skippedOf, readOf, waitOf, handOut, lookOf, nextBy}
+use Rattle.buffer.specs.Buffer.{separators}
 use Rattle.blocks.proofs.Firsts.{pick-case}
-use Rattle.reader.proofs.Buffer.{seps-le}
+use Rattle.buffer.proofs.Buffer.{seps-le}
 use Rattle.reader.proofs.Shell.{both, fitting, within, next-looks}
 use Rattle.reader.proofs.Refusing.{by-blocks}
 use Rattle.history.specs.Facts.{Slotted}

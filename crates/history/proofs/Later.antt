@@ -9,12 +9,13 @@ use lib.ListN.{length, take}
 use borrow.Author.Tests.{le-leb}
 use Rattle.refusal.specs.Numbers.{malformedRecord, recordTooLong, strangeState}
 use Rattle.refusal.specs.Paper.{Paper, gives, more, refused, pick}
-use Rattle.blocks.specs.declared.Blocks.{Blocks}
+use Rattle.kept.specs.declared.Blocks.{Blocks}
 use Rattle.blocks.specs.Readings.{Reader, Grows}
 use Rattle.reader.specs.declared.State.{State}
 use Rattle.reader.specs.Fits.{heldOf, fits}
 use Rattle.reader.specs.Meaning.{Handed, ended, Told, Looked}
-use Rattle.reader.specs.Calls.{bufferedOf, filledBy, offerOf, bufferOf, shutState, closeOf, isSeparator, separators, skippedOf, readOf, waitOf, handOut, lookOf, nextBy}
+use Rattle.reader.specs.Calls.{bufferedOf, filledBy, offerOf, bufferOf, shutState, closeOf, skippedOf, readOf, waitOf, handOut, lookOf, nextBy}
+use Rattle.buffer.specs.Buffer.{isSeparator, separators}
 use Rattle.stream.specs.Interface.{Settles}
 use Rattle.history.specs.Facts.{Slotted, HandsOut, progressOf}
 use Rattle.history.specs.History.{Call, offer, next, close, callOf, run}

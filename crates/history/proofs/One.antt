@@ -7,7 +7,7 @@ use Rattle.refusal.specs.Numbers.{malformedRecord, cutShort, recordTooLong, aft
 use Rattle.refusal.specs.Paper.{Paper, gives, more, refused, pick}
 use Rattle.refusal.specs.Meaning.{namedBy}
 use Rattle.refusal.proofs.Laws.{named-by-its-number}
-use Rattle.blocks.specs.declared.Blocks.{Blocks}
+use Rattle.kept.specs.declared.Blocks.{Blocks}
 use Rattle.blocks.specs.declared.What.{What}
 use Rattle.blocks.specs.declared.What.the-variants as what
 use Rattle.blocks.specs.declared.Run.{Run}

@@ -11,9 +11,9 @@ use Rattle.refusal.specs.Numbers.{tooDeep}
 use Rattle.refusal.specs.Paper.{Paper, gives, more, refused, Spot, spot, pick}
 use Rattle.refusal.proofs.Cases.{either}
 use Rattle.token.specs.declared.Kind.{Kind}
-use Rattle.scan.specs.Step.{Step, go, finished, wrong, deep, step}
-use Rattle.blocks.specs.declared.Blocks.{Blocks}
-use Rattle.blocks.specs.Kept.{dueOf, blocksOf, blocksThen, noBlocks}
+use Rattle.automaton.specs.Step.{Step, go, finished, wrong, deep, step}
+use Rattle.kept.specs.declared.Blocks.{Blocks}
+use Rattle.kept.specs.Kept.{dueOf, blocksOf, blocksThen, noBlocks}
 use Rattle.blocks.specs.Readings.{Reached, reached, Reader, Grows, Onward, onStep, onToken, readFor, readOn, readBy}
 use Rattle.blocks.proofs.Laws.{read-end, read-turn}
 use Rattle.stream.specs.Interface.{Settles}

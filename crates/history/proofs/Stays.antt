@@ -11,7 +11,8 @@ use Rattle.blocks.specs.Readings.{Reader, Grows}
 use Rattle.reader.specs.declared.State.{State}
 use Rattle.reader.specs.Fits.{mostOffset, fits}
 use Rattle.reader.specs.Meaning.{done, Told}
-use Rattle.reader.specs.Calls.{openOf, recordOf}
+use Rattle.reader.specs.Calls.{openOf}
+use Rattle.buffer.specs.Buffer.{recordOf}
 use Rattle.history.specs.Facts.{Slotted}
 use Rattle.history.specs.History.{Call, offer, next, close, acceptedBy, callOf, run}
 use Rattle.history.proofs.Offers.{Offering, accepted, turned-away, offering, offered-length}

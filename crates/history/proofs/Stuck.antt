@@ -18,7 +18,8 @@ use Rattle.blocks.proofs.Ranged.{ranged}
 use Rattle.reader.specs.declared.State.{State}
 use Rattle.reader.specs.Fits.{heldOf, Fitting}
 use Rattle.reader.specs.Meaning.{Handed, ended, Looked, looked}
-use Rattle.reader.specs.Calls.{bufferedOf, isSeparator, separators, stateAt, skippedOf, readOf, waitOf, handOut, lookOf, nextBy}
+use Rattle.reader.specs.Calls.{bufferedOf, stateAt, skippedOf, readOf, waitOf, handOut, lookOf, nextBy}
+use Rattle.buffer.specs.Buffer.{isSeparator, separators}
 use Rattle.blocks.proofs.Firsts.{pick-case}
 use Rattle.reader.proofs.Shell.{within, next-looks}
 use Rattle.history.specs.Facts.{unpassed, HandsOut, progressOf}

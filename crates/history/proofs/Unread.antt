@@ -10,15 +10,16 @@ use lib.ListN.{length, getD, take, drop}
 use lib.Seq.{slice, length-slice, drop-drop}
 use Rattle.refusal.specs.Paper.{Paper, gives, more, refused, Spot, spot, pick}
 use Rattle.token.specs.declared.Kind.{Kind}
-use Rattle.scan.specs.Step.{Step, go, finished, wrong, deep, step}
-use Rattle.blocks.specs.declared.Blocks.{Blocks}
-use Rattle.blocks.specs.Kept.{dueOf, blocksOf, blocksThen}
+use Rattle.automaton.specs.Step.{Step, go, finished, wrong, deep, step}
+use Rattle.kept.specs.declared.Blocks.{Blocks}
+use Rattle.kept.specs.Kept.{dueOf, blocksOf, blocksThen}
 use Rattle.blocks.specs.Readings.{Reached, Reader, Grows, Onward, onStep, onToken, readFor, readOn, readBy}
 use Rattle.reader.specs.declared.State.{State}
 use Rattle.reader.specs.Fits.{fits, Fitting}
-use Rattle.reader.specs.Calls.{bufferedOf, offerOf, bufferOf, closeOf, separators, skippedOf, readOf, handOut, lookOf, nextBy}
+use Rattle.reader.specs.Calls.{bufferedOf, offerOf, bufferOf, closeOf, skippedOf, readOf, handOut, lookOf, nextBy}
+use Rattle.buffer.specs.Buffer.{separators}
 use Rattle.blocks.proofs.Firsts.{pick-case}
-use Rattle.reader.proofs.Buffer.{slice-at}
+use Rattle.buffer.proofs.Buffer.{slice-at}
 use Rattle.reader.proofs.Shell.{fitting, skipped-fits, within, next-strange, next-looks}
 use Rattle.stream.specs.Interface.{Unread}
 use Rattle.history.specs.History.{takenFrom}

@@ -6,9 +6,9 @@ use lib.Dec.{ltb}
 use lib.ListN.{length, drop}
 use Rattle.refusal.specs.Numbers.{strangeState}
 use Rattle.refusal.specs.Paper.{Paper, gives, more, refused, pick}
-use Rattle.scan.specs.Limit.{mostOpen}
-use Rattle.blocks.specs.declared.Blocks.{Blocks}
-use Rattle.blocks.specs.Kept.{noBlocks}
+use Rattle.automaton.specs.Limit.{mostOpen}
+use Rattle.kept.specs.declared.Blocks.{Blocks}
+use Rattle.kept.specs.Kept.{noBlocks}
 use Rattle.blocks.specs.Readings.{Reader}
 use Rattle.reader.specs.declared.State.{State}
 use Rattle.reader.specs.Meaning.{Handed, handed, ended, told, looked}

@@ -10,7 +10,8 @@ use Rattle.refusal.specs.Paper.{Paper, gives, more, refused}
 use Rattle.blocks.specs.Readings.{Reader}
 use Rattle.reader.specs.declared.State.{State}
 use Rattle.reader.specs.Meaning.{Handed, handed, ended}
-use Rattle.reader.specs.Calls.{offerOf, bufferOf, bufferedOf, closeOf, isSeparator, nextBy, recordOf}
+use Rattle.reader.specs.Calls.{offerOf, bufferOf, bufferedOf, closeOf, nextBy}
+use Rattle.buffer.specs.Buffer.{isSeparator, recordOf}
 
 -- ---- the calls
 

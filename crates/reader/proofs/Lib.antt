@@ -1,4 +1,3 @@
--- Laws of the stream's calls: the buffer's bytes (Buffer), 28's tests one by one (Refusing), and what follows from them (Shell).
-pub mod Buffer
+-- Laws of the stream's calls: 28's tests one by one (Refusing), and what follows from them (Shell).
 pub mod Shell
 pub mod Refusing

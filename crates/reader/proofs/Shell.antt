@@ -10,17 +10,18 @@ use lib.Dec.{eqb, ltb, leb}
 use borrow.Author.Tests.{eqb-true, leb-true, le-ltb}
 use Rattle.refusal.specs.Numbers.{strangeState}
 use Rattle.refusal.specs.Paper.{Paper, gives, refused, pick}
-use Rattle.scan.specs.Limit.{mostOpen}
-use Rattle.blocks.specs.declared.Blocks.{Blocks}
-use Rattle.blocks.specs.Kept.{kindsKnown, depthWithin, depthWithinPassed, dueFits, blocksFit}
+use Rattle.automaton.specs.Limit.{mostOpen}
+use Rattle.kept.specs.declared.Blocks.{Blocks}
+use Rattle.kept.specs.Kept.{kindsKnown, depthWithin, depthWithinPassed, dueFits, blocksFit}
 use Rattle.blocks.specs.Readings.{Reached, Reader, Grows}
 use Rattle.blocks.proofs.Ranged.{Ranged, ranged}
 use Rattle.reader.specs.declared.State.{State}
 use Rattle.reader.specs.Fits.{leastBuffer, mostBuffer, mostOffset, heldOf, fits, lengthsAgree, lengthInRange, placesInOrder, offsetFits, blocksAgree, Fitting}
 use Rattle.reader.specs.Meaning.{told, looked}
-use Rattle.reader.specs.Calls.{separators, skippedOf, stateAt, bufferedOf, readOf, takenOf, filledBy, offerOf, bufferOf, lookOf, nextBy, Within}
+use Rattle.reader.specs.Calls.{skippedOf, stateAt, bufferedOf, readOf, takenOf, filledBy, offerOf, bufferOf, lookOf, nextBy, Within}
+use Rattle.buffer.specs.Buffer.{separators}
 use Rattle.blocks.proofs.Firsts.{pick-case}
-use Rattle.reader.proofs.Buffer.{seps-le}
+use Rattle.buffer.proofs.Buffer.{seps-le}
 
 -- two tests that both hold
 pub both : (a b : Bool) → a && b ≡ true → (a ≡ true) × (b ≡ true)
@@ -56,11 +57,18 @@ fitting s n e =
       depth = fit-depth (s .blocks) (s .place - s .start) (d .1);
     }
 
+pub ordered : {s : State} {n : ℕ} → Fitting s n → s .start ≤ s .filled
+ordered F = omega (arith, F .order, F .passed)
+
+-- the separators at the front of the bytes buffered are some of these
+pub seps-held : (s : State) (l : List ℕ) → Fitting s (length l) → separators (bufferedOf s l) ≤ heldOf s
+seps-held s l F = rw (length-slice (s .start) (s .filled) l (F .within)) at (seps-le (slice (s .start) (s .filled) l))
+
 pub skipped-fits : (s : State) (l : List ℕ) → Fitting s (length l) → Fitting (skippedOf s l) (length l)
 unfolding skippedOf
 skipped-fits s l F =
     let k = separators (slice (s .start) (s .filled) l) in
-    let le : k ≤ s .filled - s .start = rw (length-slice (s .start) (s .filled) l (F .within)) at (seps-le (slice (s .start) (s .filled) l)) in
+    let le : k ≤ s .filled - s .start = seps-held s l F in
     pick-case (λ t. Fitting t (length l)) (eqb (s .place) (s .start)) (stateAt s (s .offset + k) (s .start + k) (s .start + k) (s .blocks)) s
     (λ _. record { len = F .len; low = F .low; high = F .high; order = omega arith; passed = omega arith; within = F .within; sum = omega arith; depth = F .depth })
     (λ _. F)

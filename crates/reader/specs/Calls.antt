@@ -1,5 +1,5 @@
 -- The reader's calls as functions of the state and the buffer's bytes.
-use Prim.Native.Nat.{ℕ, zero, suc, _+_, _-_, _≤_, _<_, min}
+use Prim.Native.Nat.{ℕ, _+_, _-_, _≤_, _<_, min}
 use mathlib.Core.Path.{_≡_}
 use mathlib.Core.Bool.{Bool, true, false}
 use mathlib.Core.List.{List, [], _∷_, _++_}
@@ -8,9 +8,9 @@ use lib.Seq.{slice}
 use lib.Dec.{eqb, ltb, leb}
 use Rattle.refusal.specs.Numbers.{malformedRecord, cutShort, recordTooLong, bufferLength, afterClosing, offsetTooHigh, strangeState}
 use Rattle.refusal.specs.Paper.{Paper, gives, more, refused, pick}
-use Rattle.blanks.specs.Skip.{isBlank}
-use Rattle.blocks.specs.declared.Blocks.{Blocks}
-use Rattle.blocks.specs.Kept.{noBlocks}
+use Rattle.buffer.specs.Buffer.{separators}
+use Rattle.kept.specs.declared.Blocks.{Blocks}
+use Rattle.kept.specs.Kept.{noBlocks}
 use Rattle.blocks.specs.Readings.{Reached, Reader, readBy, binary}
 use Rattle.reader.specs.declared.State.{State}
 use Rattle.reader.specs.declared.Mark.{Mark}
@@ -73,20 +73,11 @@ closeOf s n = pick (fits s n) (told (gives done) (shutState s)) (told (refused s
 
 -- ---- next
 
--- separators between records are `;` and blanks
-unfoldable pub isSeparator : ℕ → Bool
-isSeparator b = pick (eqb b 0x3B) true (isBlank b)
-
--- how many separators a list starts with
-unfoldable pub separators : List ℕ → ℕ
-separators [] = 0
-separators (b ∷ rest) = pick (isSeparator b) (suc (separators rest)) 0
-
 -- a state with another offset, first byte, kept place and blocks
 abbrev pub stateAt : State → ℕ → ℕ → ℕ → Blocks → State
 stateAt s o start place b = record { len = s .len; offset = o; start = start; place = place; filled = s .filled; closed = s .closed; blocks = b }
 
--- if no token of the record is passed yet (the kept place is its first byte), separators are skipped
+-- if no token of the record is passed yet (the kept place is its first byte), separators are skipped: `;` and blanks
 unfoldable pub skippedOf : State → List ℕ → State
 skippedOf s l =
     pick (eqb (s .place) (s .start))
@@ -129,12 +120,6 @@ nextBy t s l = pick (fits s (length l)) (lookOf t (skippedOf s l) l) (looked (re
 -- the records are binary
 abbrev pub nextOf : State → List ℕ → Looked
 nextOf s l = nextBy binary s l
-
--- ---- a record's bytes
-
--- the part of the lent buffer at place and length, empty where they run past it
-abbrev pub recordOf : List ℕ → ℕ → ℕ → List ℕ
-recordOf l p n = pick (ltb (length l) p) [] (pick (ltb (length l - p) n) [] (take n (drop p l)))
 
 -- ---- what the private functions ask
 

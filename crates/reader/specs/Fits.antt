@@ -3,8 +3,8 @@ use Prim.Native.Nat.{ℕ, _+_, _-_, _≤_}
 use mathlib.Core.Path.{_≡_}
 use mathlib.Core.Bool.{Bool, true, false, _&&_}
 use lib.Dec.{eqb, leb}
-use Rattle.scan.specs.Limit.{mostOpen}
-use Rattle.blocks.specs.Kept.{blocksFit}
+use Rattle.automaton.specs.Limit.{mostOpen}
+use Rattle.kept.specs.Kept.{blocksFit}
 use Rattle.reader.specs.declared.State.{State}
 
 -- a buffer has N bytes, 64 to 65,536

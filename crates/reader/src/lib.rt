@@ -1,17 +1,19 @@
 // The stream reader: successive records from a lent buffer that is filled piece by piece. What a call answers is decided by
 // specs/Calls.antt, which reads as document 01's "The stream"; 28's tests stand in specs/Fits.antt. The state goes by value.
 ghost use mathlib.Core.Path.{_≡_};
-ghost use Prim.Native.Nat.{_+_, _-_, _≤_, min};
+ghost use Prim.Native.Nat.{_≤_};
 ghost use lib.ListN.{length};
-ghost use lib.Seq.{slice, paste};
 ghost use Rattle.blocks.specs.Readings.{runMeaning};
 ghost use Rattle.reader.specs.Fits.{fits, placesFit, Fitting};
 ghost use Rattle.reader.specs.Meaning.{openedMeaning, offeredMeaning, closedMeaning, nextMeaning};
-ghost use Rattle.reader.specs.Calls.{newState, openOf, offerOf, bufferOf, closeOf, isSeparator, separators, skippedOf, markOf, waitOf, handOut, nextOf, recordOf, Within};
-use blocks::Blocks;
+ghost use Rattle.reader.specs.Calls.{newState, openOf, offerOf, bufferOf, closeOf, skippedOf, markOf, waitOf, handOut, nextOf, Within};
 use blocks::Run;
 use blocks::What;
+use kept::Blocks;
 use refusal::Refusal;
+
+// The bytes of a record that was handed out.
+pub use buffer::record;
 
 // The lengths that a buffer may have.
 pub const LEAST_BUFFER: usize = 64;
@@ -160,14 +162,14 @@ fn fits_together(s: State, n: usize) -> bool
     if MOST_OFFSET - offset < (filled - start) as u64 {
         return false;
     }
-    blocks::blocks_fit(kept, place - start)
+    kept::blocks_fit(kept, place - start)
 }
 
 // Nothing is taken, from a stream offset on, over a buffer of `len` bytes.
 fn new_state(len: usize, offset: u64) -> State
     ensures { λ r. ⌜ r ≡ newState len offset ⌝ }
 {
-    let none = blocks::no_blocks();
+    let none = kept::no_blocks();
     State {
         len,
         offset,
@@ -202,67 +204,6 @@ pub fn open(start: u64, buf: &[u8]) -> Opened
     }
 }
 
-// Moves the bytes from `from` up to `to` to the front.
-fn shift(buf: &mut [u8], from: usize, to: usize)
-    requires { ⌜ (from ≤ to) × (to ≤ length (now buf)) ⌝ }
-    ensures { λ _. ⌜ now (buf .exit) ≡ paste (now (buf .entry)) 0 (slice from to (now (buf .entry))) (to - from) ⌝ }
-{
-    // Where they stand there already, the cost of a piece does not grow with what is passed.
-    if from == 0 {
-        return;
-    }
-    let count = to - from;
-    let mut i = 0;
-    while i < count {
-        buf[i] = buf[from + i];
-        i += 1;
-    }
-}
-
-// Copies the first `count` bytes of `piece` to `at`.
-fn put(buf: &mut [u8], at: usize, piece: &[u8], count: usize)
-    requires { ⌜ (at + count ≤ length (now buf)) × (count ≤ length (now piece)) ⌝ }
-    ensures { λ _. ⌜ now (buf .exit) ≡ paste (now (buf .entry)) at (now (piece .entry)) count ⌝ }
-{
-    let mut i = 0;
-    while i < count {
-        buf[at + i] = piece[i];
-        i += 1;
-    }
-}
-
-// The least of two numbers.
-fn least(a: usize, b: usize) -> usize
-    ensures { λ r. ⌜ r ≡ min a b ⌝ }
-{
-    if a < b { a } else { b }
-}
-
-// Whether a byte separates records.
-fn is_separator(b: u8) -> bool
-    ensures { λ r. ⌜ r ≡ isSeparator b ⌝ }
-{
-    if b == b';' {
-        return true;
-    }
-    blanks::is_blank(b)
-}
-
-// The place of the first byte from `from` on that is no separator, or `to`.
-fn skip_separators(buf: &[u8], from: usize, to: usize) -> usize
-    requires { ⌜ (from ≤ to) × (to ≤ length (now buf)) ⌝ }
-    ensures { λ r. ⌜ (r ≡ from + separators (slice from to (now (buf .entry)))) × (r ≤ to) ⌝ }
-{
-    let mut i = from;
-    while i < to {
-        if !is_separator(buf[i]) {
-            return i;
-        }
-        i += 1;
-    }
-    to
-}
-
 // The state behind the separators before a record that has no token passed.
 fn skipped(s: State, buf: &[u8]) -> State
     requires { ⌜ Fitting s (length (now buf)) ⌝ }
@@ -273,8 +214,9 @@ fn skipped(s: State, buf: &[u8]) -> State
     let filled = s.filled;
     let mut t = s;
     if place == start {
-        let to = skip_separators(buf, start, filled);
-        t.offset = s.offset + (to - start) as u64;
+        let count = buffer::leading_separators(&buf[start..filled]);
+        let to = start + count;
+        t.offset = s.offset + count as u64;
         t.start = to;
         t.place = to;
     }
@@ -423,9 +365,7 @@ impl State {
                 state: self,
             };
         }
-        let count = least(m, n - held);
-        shift(buf, start, filled);
-        put(buf, held, piece, count);
+        let count = buffer::refill(buf, start, filled, piece);
         let mut next = self;
         next.start = 0;
         next.place = place - start;
@@ -474,19 +414,4 @@ impl State {
         let run = blocks::pass(kept, &buf[start..filled], place - start);
         hand_out(s, run, buf)
     }
-}
-
-// The bytes of a record that was handed out, empty where they run past the buffer.
-pub fn record(buf: &[u8], place: usize, length: usize) -> &[u8]
-    ensures { λ r. ⌜ now r ≡ recordOf (now (buf .entry)) place «length» ⌝ }
-{
-    let n = buf.len();
-    if n < place {
-        return &buf[0..0];
-    }
-    if n - place < length {
-        return &buf[0..0];
-    }
-    let end = place + length;
-    &buf[place..end]
 }

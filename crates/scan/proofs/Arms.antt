@@ -1,16 +1,12 @@
 -- The table of the automaton, row by row, as the ways through the code read it: a way is told the kind, or which kinds it is not.
 use mathlib.Core.Path.{_≡_, refl, _∙_}
-use Prim.Native.Nat.{ℕ, _<_}
+use Prim.Native.Nat.{ℕ}
 use mathlib.Core.Bool.{Bool, true, false}
 use mathlib.Core.List.{List, [], _∷_}
-use native.Mathlib.Omega.{arith}
-use lib.ListN.{length}
-use borrow.Author.Tests.{le-ltb, lt-ltb}
 use Rattle.refusal.specs.Numbers.{notValue, notKey, notEquals}
 use Rattle.token.specs.declared.Kind.{Kind}
 use Rattle.token.specs.declared.Kind.the-variants.{Text, Scalar, OpenList, CloseList, OpenMap, CloseMap, OpenAttributes, CloseAttributes, Equals, Semicolon}
-use Rattle.scan.specs.Limit.{mostOpen}
-use Rattle.scan.specs.Step.{Block, list, map, attributes, Due, value, object, item, key, equals, go, wrong, deep, after, closed, opened, onObject, onValue, onItem, onKey, onEquals, endList, endMap, endAttributes, step}
+use Rattle.automaton.specs.Step.{Block, list, map, attributes, value, object, item, key, equals, go, wrong, after, closed, opened, onObject, onValue, onItem, onKey, onEquals, endList, endMap, endAttributes, step}
 use Rattle.scan.specs.Walk.{Cont, arrive}
 use Rattle.scan.specs.Post.{blockOf, dueOf}
 
@@ -116,15 +112,6 @@ pub scalar-whole : (b : Bool) (K : List Block) → step (dueOf b) K Scalar ≡ a
 unfolding step onValue onObject
 scalar-whole true K = refl
 scalar-whole false K = refl
-
--- there is room for a block, or none
-pub too-deep : (b : Block) (d : Due) (K : List Block) → length K ≡ mostOpen → opened b d K ≡ deep
-unfolding opened
-too-deep b d K e = rw (le-ltb (length K) mostOpen (omega arith))
-
-pub not-deep : (b : Block) (d : Due) (K : List Block) → length K < mostOpen → opened b d K ≡ go (b ∷ K) d
-unfolding opened
-not-deep b d K h = rw (lt-ltb (length K) mostOpen h)
 
 -- in a block
 pub list-ends : (K : List Block) → step item (list ∷ K) CloseList ≡ closed list K

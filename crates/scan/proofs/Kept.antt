@@ -10,7 +10,8 @@ use Rattle.refusal.specs.declared.Format.the-variants.{Binary}
 use Rattle.token.specs.declared.Kind.{Kind}
 use Rattle.lexer.specs.Lexer.{kindAt}
 use Rattle.lexer.proofs.Laws.{settled}
-use Rattle.scan.specs.Step.{Block, Due, Step, go, step, Passed, none, passes}
+use Rattle.automaton.specs.Step.{Block, Due, Step, go, step}
+use Rattle.scan.specs.Stops.{Passed, none, passes}
 use Rattle.scan.specs.Walk.{arrive, walk}
 use Rattle.scan.proofs.Tokens.{token-grows}
 use Rattle.scan.proofs.Laws.{walk-token}

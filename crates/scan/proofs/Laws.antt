@@ -9,7 +9,7 @@ use Rattle.refusal.specs.declared.Format.{Format}
 use Rattle.token.specs.declared.Kind.{Kind}
 use Rattle.lexer.specs.Lexer.{kindAt, skipOf}
 use Rattle.lexer.proofs.Laws.{ends, skip-same}
-use Rattle.scan.specs.Step.{Block, Due, value, Step, go, finished, wrong, deep, step}
+use Rattle.automaton.specs.Step.{Block, Due, value, Step, go, finished, wrong, deep, step}
 use Rattle.scan.specs.Walk.{Cont, arrive, onRead, runFor, walk}
 use Rattle.scan.proofs.Tokens.{token-grows}
 

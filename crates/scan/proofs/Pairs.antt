@@ -14,8 +14,8 @@ use Rattle.token.specs.Meaning.{kindsOf}
 use Rattle.token.specs.Ends.{stringEnd, scalarEnd}
 use Rattle.binary.specs.Binary.{binaryFrom}
 use Rattle.lexer.specs.Lexer.{tokenFrom, kindAt, skipOf, map-opens, attributes-open, equals-stands, separator-stands}
-use Rattle.scan.specs.Limit.{mostOpen}
-use Rattle.scan.specs.Step.{Block, map, attributes, value, key, equals, go}
+use Rattle.automaton.specs.Limit.{mostOpen}
+use Rattle.automaton.specs.Step.{Block, map, attributes, value, key, equals, go}
 use Rattle.scan.specs.Walk.{arrive, walk}
 use Rattle.scan.specs.Post.{answerOf, Begun, Pairs, Along, blockOf, dueOf}
 use Rattle.scan.proofs.Arms.{opens-attributes, opens-map, map-closed, equals-is, key-next, after-key}

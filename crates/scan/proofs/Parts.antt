@@ -13,13 +13,14 @@ use Rattle.token.specs.declared.Kind.the-variants.{Text, Scalar, OpenList, Clos
 use Rattle.token.specs.Ends.{stringEnd, scalarEnd}
 use Rattle.lexer.specs.Lexer.{kindAt, skipOf, Mark, list-opens, list-closes, map-opens, map-closes, attributes-open, attributes-close, equals-stands, separator-stands}
 use Rattle.lexer.proofs.Laws.{ends, mark-here, refused-is}
-use Rattle.scan.specs.Limit.{mostOpen}
-use Rattle.scan.specs.Step.{Block, list, map, attributes, Due, value, object, item, key, equals, Step, go, wrong, deep, after, closed, opened, step}
+use Rattle.automaton.specs.Limit.{mostOpen}
+use Rattle.automaton.specs.Step.{Block, list, map, attributes, Due, value, object, item, key, equals, Step, go, wrong, deep, after, closed, opened, step}
 use Rattle.scan.specs.Walk.{Cont, arrive, onRead, walk}
 use Rattle.scan.specs.Post.{answerOf, whyOf, resume, Past, Part, Tree, Begun, Attributed, Pair, Pairs, dueOf}
 use Rattle.scan.proofs.Tokens.{token-grows, skip-on, skip-here, not-mark, no-text, no-scalar, Ending, text-ends, scalar-ends, none-ends, ending}
 use Rattle.scan.proofs.Laws.{walk-unfolds, walk-token, walk-more, walk-skip}
-use Rattle.scan.proofs.Arms.{begins, no-value, no-key, no-equals, opens-attributes, text-whole, scalar-whole, key-is, equals-is, too-deep, not-deep, arrive-after, arrive-closed}
+use Rattle.automaton.proofs.Opened.{too-deep, not-deep}
+use Rattle.scan.proofs.Arms.{begins, no-value, no-key, no-equals, opens-attributes, text-whole, scalar-whole, key-is, equals-is, arrive-after, arrive-closed}
 
 -- 1. Any part
 

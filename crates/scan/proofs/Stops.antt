@@ -13,12 +13,13 @@ use Rattle.refusal.specs.declared.Format.the-variants.{Binary}
 use Rattle.token.specs.declared.Kind.{Kind}
 use Rattle.lexer.specs.Lexer.{kindAt, skipOf}
 use Rattle.lexer.proofs.Laws.{ends, refused-is, settled}
-use Rattle.scan.specs.Step.{Block, Due, value, Step, go, finished, wrong, deep, step, Passed, none, passes}
+use Rattle.automaton.specs.Step.{Block, Due, value, Step, go, finished, wrong, deep, step}
+use Rattle.scan.specs.Stops.{Passed, none, passes}
 use Rattle.scan.specs.Walk.{arrive, walk, scanOf}
 use Rattle.scan.specs.Stops.{Stop, ran-out, bad-token, misplaced, too-many, last-token, Stops}
 use Rattle.scan.proofs.Tokens.{token-grows}
 use Rattle.scan.proofs.Laws.{walk-token, walk-more, walk-refused}
-use Rattle.scan.proofs.Named.{wrong-named}
+use Rattle.automaton.proofs.Named.{wrong-named}
 use Rattle.scan.proofs.Kept.{kept-place, passed-grows, token-longer, passed-longer}
 
 -- 1. Both ways

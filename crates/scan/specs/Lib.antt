@@ -1,6 +1,4 @@
--- What a scan answers: the limit, the automaton over tokens, its run over the bytes, and what the private functions say.
-pub mod Limit
-pub mod Step
+-- What a scan answers: the run of the automaton (crate `automaton`) over the bytes, how it stops, and what the private functions say.
 pub mod Walk
 pub mod Stops
 pub mod Meaning

@@ -9,7 +9,7 @@ use Rattle.refusal.specs.Numbers.{tooDeep}
 use Rattle.refusal.specs.Paper.{Paper, gives, more, refused, Spot, spot}
 use Rattle.refusal.specs.declared.Format.{Format}
 use Rattle.token.specs.declared.Kind.{Kind}
-use Rattle.scan.specs.Step.{Block, list, map, attributes, Due, value, object, item, key, equals, Step, after, closed}
+use Rattle.automaton.specs.Step.{Block, list, map, attributes, Due, value, object, item, key, equals, Step, after, closed}
 use Rattle.scan.specs.Walk.{walk, arrive}
 
 -- the answer of an end, a refusal's number and its place. The end 0 says that the part is not whole, and then the number 0 that the

@@ -1,13 +1,20 @@
 -- How a run stops: some tokens are passed, and the next one is where the answer comes from.
 use mathlib.Core.Path.{_≡_}
-use Prim.Native.Nat.{ℕ}
+use Prim.Native.Nat.{ℕ, zero, suc}
 use mathlib.Core.List.{List, [], _∷_}
 use Rattle.refusal.specs.Numbers.{tooDeep}
 use Rattle.refusal.specs.Paper.{Paper, gives, more, refused, spot}
 use Rattle.refusal.specs.declared.Format.{Format}
 use Rattle.token.specs.declared.Kind.{Kind}
 use Rattle.lexer.specs.Lexer.{kindAt}
-use Rattle.scan.specs.Step.{Block, Due, finished, wrong, deep, step, Passed}
+use Rattle.automaton.specs.Step.{Block, Due, go, finished, wrong, deep, step}
+
+-- c tokens are passed, from a place with some blocks open and something due to another
+pub data Passed (f : Format) (s : List ℕ) : ℕ → ℕ → List Block → Due → ℕ → List Block → Due → Type 0 where
+  -- no token: the same place, blocks and due
+  none : {p : ℕ} {K : List Block} {d : Due} → Passed f s zero p K d p K d
+  -- a token that is due, and then c more from the place after it
+  passes : {c p a q z : ℕ} {k : Kind} {K L M : List Block} {d e u : Due} → kindAt f s p ≡ gives (spot k a q) → step d K k ≡ go L e → Passed f s c q L e z M u → Passed f s (suc c) p K d z M u
 
 -- the answer that comes of the token at a place, with some blocks open and something due there, where no token is passed
 pub data Stop (f : Format) (s : List ℕ) : ℕ → List Block → Due → Paper ℕ → Type 0 where

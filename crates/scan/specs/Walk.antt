@@ -8,7 +8,7 @@ use Rattle.refusal.specs.Paper.{Paper, gives, more, refused, Spot, spot}
 use Rattle.refusal.specs.declared.Format.{Format}
 use Rattle.token.specs.declared.Kind.{Kind}
 use Rattle.lexer.specs.Lexer.{kindAt}
-use Rattle.scan.specs.Step.{Block, Due, value, Step, go, finished, wrong, deep, step}
+use Rattle.automaton.specs.Step.{Block, Due, value, Step, go, finished, wrong, deep, step}
 
 -- how the run goes on, from a place, some open blocks and what is due
 abbrev pub Cont : Type 0

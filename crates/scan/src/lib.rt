@@ -1,4 +1,4 @@
-// Where does the next value end, and is there a whole one at all? The automaton of specs/Step and specs/Walk decides (`scanOf`).
+// Where does the next value end, and is there a whole one at all? The automaton of crate `automaton`, run by specs/Walk, decides (`scanOf`).
 // Each token that is passed is read once, or twice where it is a key before a block, and no value is made of it; the one at which a scan
 // stops is read again, to say why. The private functions answer one number, the end of a part, or 0 where the part is not whole; then `no`
 // and `place` say why: a refusal's number and its place, or the number 0 where the bytes ended. Where the part is whole they say nothing.
@@ -10,7 +10,7 @@ ghost use lib.ListN.{length};
 ghost use Rattle.refusal.specs.declared.Format.the-variants.{Binary, Text};
 ghost use Rattle.token.specs.Ends.{stringEnd, scalarEnd};
 ghost use Rattle.lexer.specs.Lexer.{kindAt, skipOf};
-ghost use Rattle.scan.specs.Limit.{mostOpen};
+ghost use Rattle.automaton.specs.Limit.{mostOpen};
 ghost use Rattle.scan.specs.Walk.{scanOf};
 ghost use Rattle.scan.specs.Meaning.{scanMeaning};
 ghost use Rattle.scan.specs.Post.{answerOf, whyOf, Tree, Begun, Pair, Items, Along, Pairs};

@@ -8,9 +8,9 @@ use lib.ListN.{length}
 use borrow.Author.Tests.{ltb-true}
 use Rattle.token.specs.declared.Kind.{Kind}
 use Rattle.token.specs.declared.Kind.the-variants.{Text, Scalar, OpenList, CloseList, OpenMap, CloseMap, OpenAttributes, CloseAttributes, Equals, Semicolon}
-use Rattle.scan.specs.Limit.{mostOpen}
-use Rattle.scan.specs.Step.{Block, list, map, attributes, Due, value, object, item, key, equals, Step, go, finished, wrong, deep, after, closed, opened, onObject, onValue, onItem, onKey, onEquals, endList, endMap, endAttributes, step}
-use Rattle.blocks.specs.Kept.{takes}
+use Rattle.automaton.specs.Limit.{mostOpen}
+use Rattle.automaton.specs.Step.{Block, list, map, attributes, Due, value, object, item, key, equals, Step, go, finished, wrong, deep, after, closed, opened, onObject, onValue, onItem, onKey, onEquals, endList, endMap, endAttributes, step}
+use Rattle.kept.specs.Kept.{takes}
 use Rattle.blocks.proofs.Firsts.{pick-case}
 
 -- what a token does to the blocks K: one more is open, one fewer, or as many; and the innermost takes what is due then

@@ -9,9 +9,9 @@ use lib.ListN.{length}
 use lib.Seq.{length-slice}
 use Rattle.refusal.specs.Paper.{Paper, gives, more, refused, pick, spot}
 use Rattle.token.specs.declared.Kind.{Kind}
-use Rattle.blocks.specs.declared.Blocks.{Blocks}
-use Rattle.scan.specs.Step.{Block, Due, go, finished}
-use Rattle.blocks.specs.Kept.{blocksThen}
+use Rattle.kept.specs.declared.Blocks.{Blocks}
+use Rattle.automaton.specs.Step.{Block, Due, go, finished}
+use Rattle.kept.specs.Kept.{blocksThen}
 use Rattle.blocks.specs.Readings.{Reached, reached, Reader, binary}
 use Rattle.reader.specs.declared.State.{State}
 use Rattle.reader.specs.Fits.{heldOf, fits, Fitting}

@@ -11,7 +11,7 @@ use lib.Seq.{length-take-le, take-at, drop-length}
 use borrow.Author.Tests.{eqb-true, eqb-false, le-ltb, leb-true, leb-false}
 use Rattle.refusal.specs.Paper.{pick}
 use Rattle.blocks.specs.Readings.{Reader}
-use Rattle.blocks.specs.Kept.{noBlocks}
+use Rattle.kept.specs.Kept.{noBlocks}
 use Rattle.reader.specs.declared.State.{State}
 use Rattle.reader.specs.Fits.{leastBuffer, mostBuffer, mostOffset, heldOf, fits}
 use Rattle.reader.specs.Meaning.{Told}

@@ -8,7 +8,7 @@ use native.Mathlib.Omega.{arith}
 use lib.ListN.{length, getD}
 use borrow.Author.Tests.{le-leb, lt-leb}
 use Rattle.refusal.specs.Paper.{Paper, gives, more, pick}
-use Rattle.blocks.specs.Kept.{noBlocks}
+use Rattle.kept.specs.Kept.{noBlocks}
 use Rattle.blocks.specs.Readings.{Reader, readBy, binary}
 use Rattle.reader.specs.Fits.{leastBuffer, mostBuffer, mostOffset}
 use Rattle.reader.specs.Meaning.{Handed, ended}

@@ -8,10 +8,10 @@ use borrow.Author.Tests.{le-leb, lt-leb}
 use Rattle.refusal.specs.Paper.{Paper, gives, more, refused}
 use Rattle.refusal.specs.declared.Format.the-variants.{Binary}
 use Rattle.scan.specs.Walk.{scanOf}
-use Rattle.blocks.specs.Kept.{noBlocks}
+use Rattle.kept.specs.Kept.{noBlocks}
 use Rattle.blocks.specs.Readings.{Reached, binary}
 use Rattle.reader.specs.Meaning.{ended}
-use Rattle.reader.specs.Calls.{separators}
+use Rattle.buffer.specs.Buffer.{separators}
 use Rattle.stream.specs.Whole.{Out, last, framed, whole}
 use Rattle.stream.specs.Framing.{Starts, Framing}
 use Rattle.stream.proofs.Binary.{binary-reader}

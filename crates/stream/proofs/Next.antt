@@ -10,14 +10,15 @@ use lib.Seq.{slice, drop-drop, take-take, take-nil, take-append-le, drop-append-
 use borrow.Author.Tests.{le-ltb, leb-true, leb-false, eqb-true, eqb-false}
 use Rattle.refusal.specs.Numbers.{cutShort, recordTooLong}
 use Rattle.refusal.specs.Paper.{Paper, gives, more, refused, pick}
-use Rattle.blocks.specs.declared.Blocks.{Blocks}
+use Rattle.kept.specs.declared.Blocks.{Blocks}
 use Rattle.blocks.specs.Readings.{Reached, reached, Reader}
 use Rattle.reader.specs.declared.State.{State}
 use Rattle.reader.specs.Fits.{heldOf}
 use Rattle.reader.specs.Meaning.{handed, ended, Looked, looked}
-use Rattle.reader.specs.Calls.{separators, skippedOf, stateAt, bufferedOf, markOf, waitOf, handOut, nextBy, recordOf}
+use Rattle.reader.specs.Calls.{skippedOf, stateAt, bufferedOf, markOf, waitOf, handOut, nextBy}
+use Rattle.buffer.specs.Buffer.{separators, recordOf}
 use Rattle.blocks.proofs.Firsts.{pick-case}
-use Rattle.reader.proofs.Buffer.{slice-at}
+use Rattle.buffer.proofs.Buffer.{slice-at}
 use Rattle.reader.proofs.Shell.{next-looks}
 use Rattle.stream.specs.Interface.{TokenReader}
 use Rattle.stream.specs.Drive.{Trace, heard, stopped, hearing, afterNext}

@@ -8,11 +8,11 @@ use lib.ListN.{length, getD, set, length-set, length-replicate}
 use lib.Seq.{getD-set-same, getD-set-other}
 use borrow.Author.Tests.{lt-ltb, le-ltb}
 use Rattle.token.specs.declared.Kind.{Kind}
-use Rattle.scan.specs.Limit.{mostOpen}
-use Rattle.scan.specs.Step.{Block, list, map, attributes, Due, value, object, item, key, equals, go, deep, step}
-use Rattle.blocks.specs.declared.Blocks.{Blocks}
-use Rattle.blocks.specs.Kept.{blockOf, byteOf, openIn, blocksOf, dueOf, keptDue, innermost, kindsThen, blocksThen, noBlocks, kindsKnown, takes, blocksFit}
-use Rattle.blocks.proofs.Stack.{open-length, open-some, known-byte, known-less, by-due}
+use Rattle.automaton.specs.Limit.{mostOpen}
+use Rattle.automaton.specs.Step.{Block, list, map, attributes, Due, value, object, item, key, equals, go, deep, step}
+use Rattle.kept.specs.declared.Blocks.{Blocks}
+use Rattle.kept.specs.Kept.{blockOf, byteOf, openIn, blocksOf, dueOf, keptDue, innermost, kindsThen, blocksThen, noBlocks, kindsKnown, takes, blocksFit}
+use Rattle.kept.proofs.Stack.{open-length, open-some, known-byte, known-less, by-due}
 use Rattle.stream.proofs.Automaton.{Turn, one-more, one-less, as-many, turn}
 
 -- open blocks of a record of which k bytes are passed

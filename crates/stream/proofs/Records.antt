@@ -7,7 +7,7 @@ use native.Mathlib.Omega.{arith}
 use lib.ListN.{drop}
 use lib.Seq.{drop-drop}
 use Rattle.refusal.specs.Paper.{pick}
-use Rattle.reader.specs.Calls.{isSeparator, separators}
+use Rattle.buffer.specs.Buffer.{isSeparator, separators}
 use Rattle.stream.specs.Whole.{streamed}
 
 -- how a stream goes on behind a record of q bytes at the front of R

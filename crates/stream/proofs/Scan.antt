@@ -4,12 +4,12 @@ use mathlib.Core.List.{List}
 use Prim.Native.Nat.{ℕ}
 use Rattle.refusal.specs.Paper.{Paper}
 use Rattle.refusal.specs.declared.Format.the-variants.{Binary}
-use Rattle.scan.specs.Step.{Block}
+use Rattle.automaton.specs.Step.{Block}
 use Rattle.scan.specs.Walk.{arrive, walk, scanOf}
 use Rattle.scan.proofs.Laws.{walk-token, walk-more, walk-refused}
 use Rattle.lexer.proofs.Laws as lexer
-use Rattle.blocks.specs.declared.Blocks.{Blocks}
-use Rattle.blocks.specs.Kept.{dueOf, blocksOf, blocksThen, noBlocks, openIn}
+use Rattle.kept.specs.declared.Blocks.{Blocks}
+use Rattle.kept.specs.Kept.{dueOf, blocksOf, blocksThen, noBlocks, openIn}
 use Rattle.blocks.specs.Readings.{Reached, binary, readBy}
 use Rattle.stream.proofs.Binary.{binary-reader}
 use Rattle.stream.proofs.Open.{Good, good-none, then-good, then-opens, then-due}

@@ -8,12 +8,13 @@ use lib.Dec.{eqb}
 use lib.ListN.{length, take}
 use lib.Seq.{length-slice, drop-drop}
 use borrow.Author.Tests.{eqb-true, eqb-false}
-use Rattle.blocks.specs.Kept.{noBlocks}
+use Rattle.kept.specs.Kept.{noBlocks}
 use Rattle.reader.specs.declared.State.{State}
 use Rattle.reader.specs.Fits.{leastBuffer, mostBuffer, mostOffset, heldOf, fits, Fitting}
-use Rattle.reader.specs.Calls.{separators, skippedOf, stateAt, bufferedOf, newState, shutState}
+use Rattle.reader.specs.Calls.{skippedOf, stateAt, bufferedOf, newState, shutState}
+use Rattle.buffer.specs.Buffer.{separators}
 use Rattle.blocks.proofs.Firsts.{pick-case}
-use Rattle.reader.proofs.Buffer.{seps-le}
+use Rattle.buffer.proofs.Buffer.{seps-le}
 use Rattle.reader.proofs.Refusing.{by-blocks}
 use Rattle.stream.proofs.Open.{Good, good-none, good-fits}
 use Rattle.stream.proofs.Records.{none-behind}

@@ -10,11 +10,12 @@ use lib.Seq.{take-append-add}
 use borrow.Author.Tests.{eq-eqb, ne-eqb, eqb-true, eqb-false}
 use Rattle.refusal.specs.Numbers.{malformedRecord, cutShort, recordTooLong}
 use Rattle.refusal.specs.Paper.{Paper, gives, more, refused, pick}
-use Rattle.blocks.specs.declared.Blocks.{Blocks}
-use Rattle.blocks.specs.Kept.{noBlocks}
+use Rattle.kept.specs.declared.Blocks.{Blocks}
+use Rattle.kept.specs.Kept.{noBlocks}
 use Rattle.blocks.specs.Readings.{Reader, readBy}
 use Rattle.reader.specs.Meaning.{handed, ended}
-use Rattle.reader.specs.Calls.{separators, markOf}
+use Rattle.reader.specs.Calls.{markOf}
+use Rattle.buffer.specs.Buffer.{separators}
 use Rattle.stream.specs.Interface.{TokenReader}
 use Rattle.stream.specs.Whole.{streamed}
 use Rattle.stream.specs.Tokens.{tokensBy}

@@ -12,9 +12,9 @@ use Rattle.refusal.specs.Numbers.{tooDeep}
 use Rattle.refusal.specs.Paper.{Paper, gives, more, refused, Spot, spot, pick}
 use Rattle.refusal.proofs.Cases.{either}
 use Rattle.token.specs.declared.Kind.{Kind}
-use Rattle.scan.specs.Step.{Block, Due, Step, go, finished, wrong, deep, step}
-use Rattle.blocks.specs.declared.Blocks.{Blocks}
-use Rattle.blocks.specs.Kept.{dueOf, blocksOf, blocksThen, noBlocks}
+use Rattle.automaton.specs.Step.{Block, Due, Step, go, finished, wrong, deep, step}
+use Rattle.kept.specs.declared.Blocks.{Blocks}
+use Rattle.kept.specs.Kept.{dueOf, blocksOf, blocksThen, noBlocks}
 use Rattle.blocks.specs.Readings.{reached, Reader, onStep, onToken, readOn}
 use Rattle.blocks.proofs.Laws.{read-end, read-turn}
 use Rattle.stream.specs.Interface.{TokenReader}

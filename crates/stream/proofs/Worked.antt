@@ -10,14 +10,15 @@ use Rattle.varint.specs.Varint.{run, number, uvarint, uvarintAt}
 use Rattle.varint.specs.Zigzag.{signed, varintAt}
 use Rattle.binary.specs.Binary.{doubleAt, marked, binaryFrom}
 use Rattle.lexer.specs.Lexer.{tokenFrom, kindAt}
-use Rattle.scan.specs.Step.{after, closed, opened, onObject, onValue, endList, endMap, endAttributes, onItem, onKey, onEquals, step}
+use Rattle.automaton.specs.Step.{after, closed, opened, onObject, onValue, endList, endMap, endAttributes, onItem, onKey, onEquals, step}
 use Rattle.scan.specs.Walk.{arrive, onRead, runFor, walk, scanOf}
-use Rattle.blocks.specs.Kept.{blockOf, byteOf, openIn, noBlocks, innermost, kindsThen, kindKnown, kindsKnown, takes, blocksFit}
+use Rattle.kept.specs.Kept.{blockOf, byteOf, openIn, noBlocks, innermost, kindsThen, kindKnown, kindsKnown, takes, blocksFit}
 use Rattle.blocks.specs.Readings.{binary, onStep, onToken, readFor, readOn}
 use Rattle.reader.specs.declared.Mark.the-variants.{Row, Control}
 use Rattle.reader.specs.Fits.{fits}
 use Rattle.reader.specs.Meaning.{ended}
-use Rattle.reader.specs.Calls.{isSeparator, separators, openOf, offerOf, bufferOf, closeOf, skippedOf, nextBy}
+use Rattle.reader.specs.Calls.{openOf, offerOf, bufferOf, closeOf, skippedOf, nextBy}
+use Rattle.buffer.specs.Buffer.{isSeparator, separators}
 use Rattle.blanks.specs.Skip.{isBlank}
 use Rattle.stream.specs.Whole.{Out, item, last, streamed, framed, whole}
 use Rattle.stream.specs.Tokens.{stepPasses, tokenPasses, tokensFor, tokensBy, wholeTokens}

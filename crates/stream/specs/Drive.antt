@@ -10,7 +10,8 @@ use Rattle.refusal.specs.Paper.{Paper, gives, more, refused, pick}
 use Rattle.blocks.specs.Readings.{Reader, binary}
 use Rattle.reader.specs.declared.State.{State}
 use Rattle.reader.specs.Meaning.{Handed, handed, ended, Looked}
-use Rattle.reader.specs.Calls.{openOf, offerOf, bufferOf, closeOf, nextBy, recordOf}
+use Rattle.reader.specs.Calls.{openOf, offerOf, bufferOf, closeOf, nextBy}
+use Rattle.buffer.specs.Buffer.{recordOf}
 use Rattle.stream.specs.Whole.{Out, item, last}
 use Rattle.stream.specs.Whole as out
 

@@ -8,7 +8,8 @@ use Rattle.refusal.specs.Paper.{gives, more, refused}
 use Rattle.refusal.specs.declared.Format.the-variants.{Binary}
 use Rattle.scan.specs.Walk.{scanOf}
 use Rattle.reader.specs.Meaning.{ended}
-use Rattle.reader.specs.Calls.{separators, markOf}
+use Rattle.reader.specs.Calls.{markOf}
+use Rattle.buffer.specs.Buffer.{separators}
 use Rattle.stream.specs.Whole.{item, last, whole}
 
 -- a rest that starts with no separator and is not empty

@@ -7,9 +7,9 @@ use lib.Dec.{ltb}
 use lib.ListN.{length, take}
 use Rattle.refusal.specs.Paper.{Paper, gives, more, refused, Spot, spot, pick}
 use Rattle.token.specs.declared.Kind.{Kind}
-use Rattle.scan.specs.Step.{Block, Due, Step, go, finished, wrong, deep, step}
-use Rattle.blocks.specs.declared.Blocks.{Blocks}
-use Rattle.blocks.specs.Kept.{dueOf, blocksOf, blocksThen, noBlocks}
+use Rattle.automaton.specs.Step.{Block, Due, Step, go, finished, wrong, deep, step}
+use Rattle.kept.specs.declared.Blocks.{Blocks}
+use Rattle.kept.specs.Kept.{dueOf, blocksOf, blocksThen, noBlocks}
 use Rattle.blocks.specs.Readings.{Reader, readBy}
 use Rattle.stream.specs.Whole.{streamed}
 

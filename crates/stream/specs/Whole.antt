@@ -10,7 +10,8 @@ use Rattle.refusal.specs.declared.Format.the-variants.{Binary}
 use Rattle.scan.specs.Walk.{scanOf}
 use Rattle.reader.specs.declared.Mark.{Mark}
 use Rattle.reader.specs.Meaning.{Handed, ended}
-use Rattle.reader.specs.Calls.{isSeparator, markOf}
+use Rattle.reader.specs.Calls.{markOf}
+use Rattle.buffer.specs.Buffer.{isSeparator}
 
 -- records, each with its bytes, mark and stream offset, and then the last answer; or no last answer came
 pub data Out : Type 0 where

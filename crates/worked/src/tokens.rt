@@ -39,19 +39,31 @@ fn say_scalar(token: Token) {
     }
 }
 
+// The byte of a token of one byte, by its kind.
+fn mark_byte(kind: Kind) -> u8 {
+    match kind {
+        Kind::OpenAttributes => b'<',
+        Kind::CloseAttributes => b'>',
+        Kind::OpenList => b'[',
+        Kind::CloseList => b']',
+        Kind::OpenMap => b'{',
+        Kind::CloseMap => b'}',
+        Kind::Equals => b'=',
+        Kind::Semicolon => b';',
+        _ => b'?',
+    }
+}
+
 // Which token stands somewhere, by its kind.
 fn say_token(token: Token) {
-    match token.kind() {
-        Kind::OpenAttributes => say(b"<"),
-        Kind::CloseAttributes => say(b">"),
-        Kind::OpenList => say(b"["),
-        Kind::CloseList => say(b"]"),
-        Kind::OpenMap => say(b"{"),
-        Kind::CloseMap => say(b"}"),
-        Kind::Equals => say(b"="),
-        Kind::Semicolon => say(b";"),
+    let kind = token.kind();
+    match kind {
         Kind::Text => say_string(token),
         Kind::Scalar => say_scalar(token),
+        _ => {
+            let byte = [mark_byte(kind)];
+            say(&byte)
+        }
     }
 }
 

@@ -1,7 +1,7 @@
 -- `begun` meets its contract: a block opens unless 128 are open.
 use mathlib.Core.Path.{refl}
 use borrow.Author.Tests.{eq-eqb, ne-eqb}
-use Rattle.scan.specs.Limit.{mostOpen}
+use Rattle.automaton.specs.Limit.{mostOpen}
 use Rattle.blocks.proofs.begun.Statement.{statement}
 use Rattle.blocks.proofs.begun.Tie as tie
 

@@ -1,9 +1,9 @@
 -- `decide` meets its contract: the first byte tells the kind.
 use native.Mathlib.Omega.{arith}
 use denote.Ref.{now}
-use Rattle.blocks.specs.Kept.{dueOf, openIn}
+use Rattle.kept.specs.Kept.{dueOf, openIn}
 use Rattle.blocks.specs.Moves.{kindBy}
-use Rattle.blocks.proofs.Stack.{open-length}
+use Rattle.kept.proofs.Stack.{open-length}
 use Rattle.blocks.proofs.Firsts.{is-scalar}
 use Rattle.blocks.proofs.Ways.{by-byte, list-begun, map-begun}
 use borrow.Author.Needs.{needs}

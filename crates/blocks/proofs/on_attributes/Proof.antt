@@ -1,6 +1,6 @@
 -- `on_attributes` meets its contract: a value must be due whose attributes are not passed.
 use native.Mathlib.Omega.{arith}
-use Rattle.blocks.specs.Kept.{dueOf}
+use Rattle.kept.specs.Kept.{dueOf}
 use Rattle.blocks.proofs.Parts.{attributes-begin, attributes-wrong}
 use Rattle.blocks.proofs.Ways.{moves-as, wrong-is, attributes-begun}
 use borrow.Author.Needs.{needs}

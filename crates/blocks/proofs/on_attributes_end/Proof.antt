@@ -1,6 +1,6 @@
 -- `on_attributes_end` meets its contract: a key must be due, in an attribute block.
 use Rattle.token.specs.declared.Kind.the-variants as kind
-use Rattle.blocks.specs.declared.Due.the-variants.{Key}
+use Rattle.kept.specs.declared.Due.the-variants.{Key}
 use Rattle.blocks.proofs.Parts.{attributes-end-wrong}
 use Rattle.blocks.proofs.Ways.{told, wrong-is, attributes-none, attributes-list, attributes-map, attributes-ended}
 use borrow.Author.Needs.{needs}

@@ -1,8 +1,8 @@
 -- `on_equals` meets its contract: it stands behind a key.
 use mathlib.Core.Path.{refl}
 use Rattle.token.specs.declared.Kind.the-variants as kind
-use Rattle.blocks.specs.declared.Due.the-variants.{Equals}
-use Rattle.scan.specs.Step.{step, onEquals}
+use Rattle.kept.specs.declared.Due.the-variants.{Equals}
+use Rattle.automaton.specs.Step.{step, onEquals}
 use Rattle.blocks.proofs.Parts.{equals-wrong}
 use Rattle.blocks.proofs.Ways.{told, wrong-is}
 use borrow.Author.Needs.{needs}

@@ -1,6 +1,6 @@
 -- `on_list_end` meets its contract: an item must be due, in a list.
 use Rattle.token.specs.declared.Kind.the-variants as kind
-use Rattle.blocks.specs.declared.Due.the-variants.{Item}
+use Rattle.kept.specs.declared.Due.the-variants.{Item}
 use Rattle.blocks.proofs.Parts.{list-end-wrong}
 use Rattle.blocks.proofs.Ways.{told, wrong-is, list-none, list-ended, list-wrong}
 use borrow.Author.Needs.{needs}

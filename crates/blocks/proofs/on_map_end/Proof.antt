@@ -1,6 +1,6 @@
 -- `on_map_end` meets its contract: a key must be due, in a map.
 use Rattle.token.specs.declared.Kind.the-variants as kind
-use Rattle.blocks.specs.declared.Due.the-variants.{Key}
+use Rattle.kept.specs.declared.Due.the-variants.{Key}
 use Rattle.blocks.proofs.Parts.{map-end-wrong}
 use Rattle.blocks.proofs.Ways.{told, wrong-is, map-none, map-ended, map-wrong}
 use borrow.Author.Needs.{needs}

@@ -2,7 +2,7 @@
 use mathlib.Core.Path.{sym, _∙_}
 use denote.Ref.{now}
 use borrow.Author.Tests.{not-true, not-false}
-use Rattle.blocks.specs.Kept.{dueOf, openIn}
+use Rattle.kept.specs.Kept.{dueOf, openIn}
 use Rattle.blocks.proofs.Ways.{moves-as, wrong-is, scalar-not, scalar-there}
 use borrow.Author.Needs.{needs}
 use Rattle.blocks.proofs.on_scalar.Statement.{statement}

@@ -1,9 +1,9 @@
 -- `on_string` meets its contract: a value or a key must be due.
 use mathlib.Core.Path.{refl}
 use Rattle.token.specs.declared.Kind.the-variants as kind
-use Rattle.blocks.specs.declared.Due.the-variants.{Key, Equals}
-use Rattle.scan.specs.Step.{step, onKey, onEquals}
-use Rattle.blocks.specs.Kept.{dueOf}
+use Rattle.kept.specs.declared.Due.the-variants.{Key, Equals}
+use Rattle.automaton.specs.Step.{step, onKey, onEquals}
+use Rattle.kept.specs.Kept.{dueOf}
 use Rattle.blocks.proofs.Parts.{string-whole}
 use Rattle.blocks.proofs.Ways.{moves-as, told}
 use borrow.Author.Needs.{needs}

@@ -1,10 +1,10 @@
 -- `pass` meets its contract: the tokens are read from the kept place on, and the answer is made where they stop.
 use mathlib.Core.Path.{sym, ap, _∙_}
-use Rattle.blocks.specs.declared.Blocks.{Blocks}
+use Rattle.kept.specs.declared.Blocks.{Blocks}
 use Rattle.blocks.specs.declared.Stop.{Stop}
 use Rattle.blocks.specs.Readings.{reached, whatMeaning}
 use Rattle.blocks.specs.Stops.{keptBy}
-use Rattle.blocks.proofs.Stack.{blocks}
+use Rattle.kept.proofs.Stack.{blocks}
 use Rattle.blocks.proofs.Laws.{pass-few, pass-many, kept-open}
 use borrow.Author.Needs.{needs}
 use Rattle.blocks.proofs.pass.Statement.{statement}

@@ -8,14 +8,14 @@ use lib.ListN.{length}
 use Rattle.refusal.specs.Numbers.{tooDeep}
 use Rattle.refusal.specs.Paper.{gives, refused}
 use Rattle.refusal.specs.Meaning.{refusalMeaning, namedBy}
-use Rattle.scan.specs.Limit.{mostOpen}
-use Rattle.blocks.specs.declared.Blocks.{Blocks}
+use Rattle.automaton.specs.Limit.{mostOpen}
+use Rattle.kept.specs.declared.Blocks.{Blocks}
 use Rattle.blocks.specs.declared.Move.the-variants.{Finish, Wrong, Deep}
-use Rattle.blocks.specs.Kept.{dueOf, noBlocks}
+use Rattle.kept.specs.Kept.{dueOf, noBlocks}
 use Rattle.blocks.specs.Moves.{wrongBy}
 use Rattle.blocks.specs.Readings.{Reached, reached, readOn, readFrom, binary}
 use Rattle.blocks.specs.Stops.{movedBy}
-use Rattle.blocks.proofs.Stack.{blocks}
+use Rattle.kept.proofs.Stack.{blocks}
 use Rattle.blocks.proofs.Ways.{moved-few}
 use Rattle.blocks.proofs.Laws.{binary-grows, read-end, token-ends, turn-none, Going, goes, finishes, refuses, too-deep}
 use borrow.Author.Needs.{needs}

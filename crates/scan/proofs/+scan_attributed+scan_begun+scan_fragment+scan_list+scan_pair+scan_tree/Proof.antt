@@ -8,7 +8,7 @@ use lib.ListN.{length}
 use borrow.Author.Needs.{needs}
 use Rattle.refusal.specs.Numbers.{notValue, notKey}
 use Rattle.lexer.specs.Lexer.{list-opens, list-closes, map-closes, attributes-open, attributes-close}
-use Rattle.scan.specs.Step.{list, value, item, key, equals}
+use Rattle.automaton.specs.Step.{list, value, item, key, equals}
 use Rattle.scan.specs.Post.{blockOf, dueOf}
 use Rattle.scan.proofs.Tokens.{skip-on, skip-here}
 use Rattle.scan.proofs.Arms.{attributes-passed, opens-list, list-ends, item-next, key-next, after-item, after-key, map-ends, map-wrong, attributes-end, attributes-wrong, list-closed}

@@ -11,12 +11,12 @@ use Rattle.refusal.specs.Meaning.{refusalMeaning, namedBy}
 use Rattle.refusal.specs.declared.Format.{Format}
 use Rattle.refusal.specs.declared.Refusal.{Refusal}
 use Rattle.lexer.specs.Lexer.{skipOf}
-use Rattle.scan.specs.Step.{value, after}
+use Rattle.automaton.specs.Step.{value, after}
 use Rattle.scan.specs.Walk.{arrive, scanOf}
 use Rattle.scan.specs.Post.{answerOf, resume, Past, Tree, Begun}
 use Rattle.scan.proofs.Parts.{answer-whole, answer-refused, skipped}
 use Rattle.scan.proofs.Tokens.{skip-here}
-use Rattle.scan.proofs.One.{named-means}
+use Rattle.automaton.proofs.Named.{named-means}
 use Rattle.scan.proofs.scan_value.Statement.{statement}
 use Rattle.scan.proofs.scan_value.Tie as tie
 

@@ -12,7 +12,7 @@ use Rattle.blocks.proofs.Laws.{binary-grows, pass-few}
 use Rattle.reader.specs.declared.State.{State}
 use Rattle.reader.specs.Fits.{Fitting}
 use Rattle.reader.specs.Calls.{readOf, handOut, lookOf}
-use Rattle.reader.proofs.Buffer.{part-is}
+use Rattle.buffer.proofs.Buffer.{part-is}
 use Rattle.reader.proofs.Shell.{fitting, skipped-fits, within, next-strange, next-looks}
 use borrow.Author.Needs.{needs}
 use Rattle.reader.proofs.State.next.Statement.{statement}

@@ -1,0 +1,3 @@
+-- The automaton over tokens, and how deep blocks may stand in one another.
+pub mod Limit
+pub mod Step

@@ -1,0 +1,2 @@
+-- What stands in a lent buffer.
+pub mod Buffer

@@ -1,0 +1,2 @@
+-- The open blocks as a state keeps them.
+pub mod Kept
