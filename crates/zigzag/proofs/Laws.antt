@@ -3,7 +3,7 @@
 use mathlib.Core.Path.{_≡_, refl, sym, ap, _∙_}
 use mathlib.Core.Logic.{⊎-elim}
 use Prim.Native.Nat.{ℕ, suc, _+_, _-_, _*_, _/_, _%_, _^_, _≤_, _<_}
-use native.Mathlib.Nat.{mod-eq-of-lt}
+use native.Mathlib.Nat.{mod-eq-of-lt, eq-zero-or-pos}
 use native.Mathlib.Omega.{arith}
 use lib.Bits.{bitXor, bitAnd, xor-zero-r, xor-add-and, and-mask}
 use lib.IntN.{ℤ, pos, negsuc, negℤ, natAbs, _+ℤ_, _-ℤ_}
@@ -13,8 +13,7 @@ use lib.Signed.{mag, nonNeg, leZ}
 use mir.Syntax.{w64}
 use mir.Val.{toZ}
 use borrow.Author.Tests.{lt-ltb, le-ltb, eq-eqb, ne-eqb, leb-false}
-use Rattle.varint.specs.Zigzag.{twos, signed, zigzag}
-use Rattle.refusal.proofs.Cases.{either}
+use Rattle.zigzag.specs.Zigzag.{twos, signed, zigzag}
 
 -- exclusive or with all ones is the complement
 pub xor-ones : (k a : ℕ) → a < 2 ^ k → bitXor a (2 ^ k - 1) + a ≡ 2 ^ k - 1
@@ -43,15 +42,15 @@ pub unzigzag-is : (n r : ℕ) → n < 2 ^ 64 → r < 2 ^ 64 → (r + n % 2) % 2 
 unzigzag-is n r hn hr e =
     ⊎-elim
     (λ h.
+    let z : r ≡ 0 = omega arith in
+    let x : bitXor (n / 2) r ≡ n / 2 = rw z (xor-zero-r (n / 2)) in
+    rw x (twos-low _ (omega arith) ∙ sym (even n (omega arith))))
+    (λ h.
     let z : r ≡ 2 ^ 64 - 1 = omega arith in
     let x : bitXor (n / 2) r ≡ 2 ^ 64 - 1 - n / 2 = rw z (omega (arith, xor-ones 64 (n / 2) (omega arith))) in
     let y : 2 ^ 64 - suc (bitXor (n / 2) r) ≡ n / 2 = omega arith in
     twos-high _ (omega arith) ∙ ap negsuc y ∙ sym (odd n (omega arith)))
-    (λ h.
-    let z : r ≡ 0 = omega arith in
-    let x : bitXor (n / 2) r ≡ n / 2 = rw z (xor-zero-r (n / 2)) in
-    rw x (twos-low _ (omega arith) ∙ sym (even n (omega arith))))
-    (either 1 (n % 2))
+    (eq-zero-or-pos (n % 2))
 
 -- a pattern from 2 ^ 63 on, less 2 ^ 64, as the machine adds it up
 pub high-sum : (p : ℕ) → 2 ^ 63 ≤ p → p < 2 ^ 64 → toZ w64 (2 ^ 63) +ℤ toZ w64 (p - 2 ^ 63) ≡ negsuc (2 ^ 64 - suc p)
@@ -81,4 +80,4 @@ signed-zigzag (negsuc k) = odd (k * 2 + 1) (omega arith) ∙ ap negsuc (omega ar
 -- and back again
 pub zigzag-signed : (n : ℕ) → zigzag (signed n) ≡ n
 zigzag-signed n =
-    ⊎-elim (λ h. ap zigzag (odd n (omega arith)) ∙ omega arith) (λ h. ap zigzag (even n (omega arith)) ∙ omega arith) (either 1 (n % 2))
+    ⊎-elim (λ h. ap zigzag (even n (omega arith)) ∙ omega arith) (λ h. ap zigzag (odd n (omega arith)) ∙ omega arith) (eq-zero-or-pos (n % 2))

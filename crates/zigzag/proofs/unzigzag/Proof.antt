@@ -4,11 +4,11 @@ use lib.Bits.{bitXor}
 use native.Mathlib.Omega.{arith}
 use mir.Syntax.{w64}
 use mir.ValLaws.{toZ-ofZ}
-use Rattle.varint.specs.Zigzag.{twos}
-use Rattle.varint.proofs.Zigzag.{unzigzag-is}
+use Rattle.zigzag.specs.Zigzag.{twos}
+use Rattle.zigzag.proofs.Laws.{unzigzag-is}
 use borrow.Author.Needs.{needs}
-use Rattle.varint.proofs.unzigzag.Statement.{statement}
-use Rattle.varint.proofs.unzigzag.Tie as tie
+use Rattle.zigzag.proofs.unzigzag.Statement.{statement}
+use Rattle.zigzag.proofs.unzigzag.Tie as tie
 
 wrapping-sub-u64-requires : tie.Need-wrapping-sub-u64-requires
 wrapping-sub-u64-requires c κs = search needs

@@ -4,10 +4,10 @@ use mir.Val.{toZ, ofZ, SFits}
 use native.Mathlib.Omega.{arith}
 use mir.Syntax.{w64}
 use mir.ValLaws.{toZ-pos, toZ-neg}
-use Rattle.varint.proofs.Zigzag.{twos-low, twos-high, high-sum}
+use Rattle.zigzag.proofs.Laws.{twos-low, twos-high, high-sum}
 use borrow.Author.Needs.{needs}
-use Rattle.varint.proofs.to_i64.Statement.{statement}
-use Rattle.varint.proofs.to_i64.Tie as tie
+use Rattle.zigzag.proofs.to_i64.Statement.{statement}
+use Rattle.zigzag.proofs.to_i64.Tie as tie
 
 cast-result : tie.Need-cast-result
 cast-result c = search needs

@@ -7,9 +7,9 @@ use mir.Syntax.{w64}
 use mir.ValLaws.{toZ-ofZ, toZ-pos}
 use lib.Signed.{mag, nonNeg}
 use mir.Val.{toZ, ofZ, Fits, SFits}
-use Rattle.varint.proofs.Zigzag.{positive, negative}
-use Rattle.varint.proofs.magnitude.Statement.{statement}
-use Rattle.varint.proofs.magnitude.Tie as tie
+use Rattle.zigzag.proofs.Laws.{positive, negative}
+use Rattle.zigzag.proofs.magnitude.Statement.{statement}
+use Rattle.zigzag.proofs.magnitude.Tie as tie
 
 cast-result : tie.Need-cast-result
 cast-result c =

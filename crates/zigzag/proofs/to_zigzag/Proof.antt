@@ -4,10 +4,10 @@ use native.Mathlib.Omega.{arith}
 use mir.Syntax.{w64}
 use mir.ValLaws.{toZ-ofZ}
 use lib.Signed.{mag}
-use Rattle.varint.proofs.Zigzag.{positive, negative}
+use Rattle.zigzag.proofs.Laws.{positive, negative}
 use borrow.Author.Needs.{needs}
-use Rattle.varint.proofs.to_zigzag.Statement.{statement}
-use Rattle.varint.proofs.to_zigzag.Tie as tie
+use Rattle.zigzag.proofs.to_zigzag.Statement.{statement}
+use Rattle.zigzag.proofs.to_zigzag.Tie as tie
 
 magnitude-requires : tie.Need-magnitude-requires
 magnitude-requires c κs = search needs
