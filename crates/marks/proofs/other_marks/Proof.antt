@@ -1,11 +1,11 @@
 -- `other_marks` meets its contract: the masks mark each byte by itself.
-use Rattle.search.proofs.Masks.{others, othered, low-63}
+use Rattle.marks.proofs.Masks.{others, othered, low-63}
 use lib.Dec.{lit<}
 use native.Mathlib.Omega.{arith}
 use mathlib.Core.Path.{ap, _∙_}
 use borrow.Author.Needs.{needs}
-use Rattle.search.proofs.other_marks.Statement.{statement}
-use Rattle.search.proofs.other_marks.Tie as tie
+use Rattle.marks.proofs.other_marks.Statement.{statement}
+use Rattle.marks.proofs.other_marks.Tie as tie
 
 word-at-requires : tie.Need-word-at-requires
 word-at-requires c κs = search needs

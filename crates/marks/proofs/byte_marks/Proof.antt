@@ -1,13 +1,13 @@
 -- `byte_marks` meets its contract: the masks mark each byte by itself.
-use Rattle.search.proofs.Masks.{filled, byted, rep-eight}
+use Rattle.marks.proofs.Masks.{filled, byted, rep-eight}
 use Rattle.word.proofs.Bytewise.{the}
 use lib.Bits.{bitAnd, bitOr, bitXor}
 use native.Mathlib.Omega.{arith}
 use Prim.Native.Nat.{ℕ, _+_, _*_}
 use mathlib.Core.Path.{_≡_, ap, ap₂, _∙_}
 use borrow.Author.Needs.{needs}
-use Rattle.search.proofs.byte_marks.Statement.{statement}
-use Rattle.search.proofs.byte_marks.Tie as tie
+use Rattle.marks.proofs.byte_marks.Statement.{statement}
+use Rattle.marks.proofs.byte_marks.Tie as tie
 
 word-at-requires : tie.Need-word-at-requires
 word-at-requires c κs = search needs

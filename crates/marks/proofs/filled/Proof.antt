@@ -2,8 +2,8 @@
 use lib.Bits.{and-le-r}
 use native.Mathlib.Omega.{arith}
 use borrow.Author.Needs.{needs}
-use Rattle.search.proofs.filled.Statement.{statement}
-use Rattle.search.proofs.filled.Tie as tie
+use Rattle.marks.proofs.filled.Statement.{statement}
+use Rattle.marks.proofs.filled.Tie as tie
 
 add-result : tie.Need-add-result
 add-result c = omega (arith, and-le-r (c .args .x) 9187201950435737471)

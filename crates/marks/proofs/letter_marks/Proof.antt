@@ -1,11 +1,11 @@
 -- `letter_marks` meets its contract: the masks mark each byte by itself.
-use Rattle.search.proofs.Masks.{letters, lettered, or-63}
+use Rattle.marks.proofs.Masks.{letters, lettered, or-63}
 use lib.Dec.{lit<}
 use native.Mathlib.Omega.{arith}
 use mathlib.Core.Path.{ap, _∙_}
 use borrow.Author.Needs.{needs}
-use Rattle.search.proofs.letter_marks.Statement.{statement}
-use Rattle.search.proofs.letter_marks.Tie as tie
+use Rattle.marks.proofs.letter_marks.Statement.{statement}
+use Rattle.marks.proofs.letter_marks.Tie as tie
 
 word-at-requires : tie.Need-word-at-requires
 word-at-requires c κs = search needs

@@ -1,13 +1,13 @@
 -- `quote_marks` meets its contract: the masks mark each byte by itself.
-use Rattle.search.proofs.Masks.{filled, quotes, quoted}
+use Rattle.marks.proofs.Masks.{filled, quotes, quoted}
 use Rattle.word.proofs.Bytewise.{the}
 use lib.Bits.{bitAnd, bitXor}
 use native.Mathlib.Omega.{arith}
 use Prim.Native.Nat.{ℕ}
 use mathlib.Core.Path.{_≡_, ap, ap₂, _∙_}
 use borrow.Author.Needs.{needs}
-use Rattle.search.proofs.quote_marks.Statement.{statement}
-use Rattle.search.proofs.quote_marks.Tie as tie
+use Rattle.marks.proofs.quote_marks.Statement.{statement}
+use Rattle.marks.proofs.quote_marks.Tie as tie
 
 word-at-requires : tie.Need-word-at-requires
 word-at-requires c κs = search needs

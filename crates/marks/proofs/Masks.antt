@@ -9,7 +9,7 @@ use lib.Bits.{bitAnd, bitOr, bitXor, and-le-l, and-le-r, or-lt, xor-lt, xor-self
 use lib.Dec.{eqb, lit<}
 use borrow.Author.Tests.{eqb-true, eqb-false, ne-eqb}
 use lib.ListN.{getD}
-use Rattle.search.specs.First.{isByte, isQuote, isOther, noLetter}
+use Rattle.marks.specs.Classes.{isByte, isQuote, isOther, noLetter}
 use Rattle.word.specs.Word.{wordAt, marksAt}
 use Rattle.word.proofs.Bytewise.{rep, agreed, always, Local, Op, the, all, _and_, _or_, _xor_, _plus_, the-local, all-local, and-local, or-local, xor-local, plus-local, marked, lows, lows-local}
 
