@@ -23,7 +23,7 @@ pub fn spare(out: &[u8], filled: usize) -> usize {
 
 // A signed number in decimal.
 pub fn put_signed(out: &mut [u8], n: usize, v: i64) -> usize {
-    let m = varint::magnitude(v);
+    let m = zigzag::magnitude(v);
     if v >= 0 {
         return output::put_decimal(out, n, m);
     }

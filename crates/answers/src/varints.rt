@@ -118,7 +118,7 @@ fn signed_into(payload: &[u8], area: &mut [u8], out: &mut [u8], n: usize) -> usi
     if area.len() < room {
         return n;
     }
-    let value = varint::to_i64(read::little8(payload, 0));
+    let value = zigzag::to_i64(read::little8(payload, 0));
     let written = varint::write_varint(value, &mut area[..room]);
     put_written(written, &area[..room], out, n)
 }

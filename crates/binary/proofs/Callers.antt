@@ -15,7 +15,8 @@ use Rattle.refusal.specs.Numbers.{badByte, negativeLength, longVarint, wideVari
 use Rattle.refusal.specs.Paper.{Paper, gives, more, refused, Got, got, Spot, spot, pick}
 use Rattle.refusal.proofs.Cases.{either}
 use Rattle.varint.specs.Varint.{uvarintAt}
-use Rattle.varint.specs.Zigzag.{signed, signedAnswer, varintAt}
+use Rattle.zigzag.specs.Zigzag.{signed}
+use Rattle.varint.specs.Signed.{signedAnswer, varintAt}
 use Rattle.varint.proofs.Round.{within, refused-number}
 use Rattle.varint.proofs.Extend.{settled-at}
 use Rattle.token.specs.declared.Token.{Token}

@@ -9,8 +9,9 @@ use borrow.Author.Tests.{lt-ltb, le-ltb, eq-eqb, ne-eqb}
 use Rattle.refusal.specs.Numbers.{negativeLength, beyondSlice}
 use Rattle.refusal.specs.Paper.{Paper, gives, more, refused, Got, got, Spot, spot}
 use Rattle.varint.specs.Varint.{uvarintAt}
-use Rattle.varint.specs.Zigzag.{signed, signedAnswer, varintAt}
-use Rattle.varint.proofs.Zigzag.{even, odd}
+use Rattle.zigzag.specs.Zigzag.{signed}
+use Rattle.varint.specs.Signed.{signedAnswer, varintAt}
+use Rattle.zigzag.proofs.Laws.{even, odd}
 use Rattle.varint.proofs.Round.{never-beyond}
 use Rattle.token.specs.declared.Token.{Token}
 use Rattle.token.specs.declared.Token.the-variants.{String, Int64}

@@ -10,7 +10,8 @@ use lib.Ieee.{binary64, ofBits}
 use Rattle.refusal.specs.Numbers.{negativeLength, beyondSlice}
 use Rattle.refusal.specs.Paper.{Paper, gives, more, refused, Got, got, Spot, spot, pick}
 use Rattle.varint.specs.Varint.{uvarintAt}
-use Rattle.varint.specs.Zigzag.{signed, varintAt}
+use Rattle.zigzag.specs.Zigzag.{signed}
+use Rattle.varint.specs.Signed.{varintAt}
 use Rattle.token.specs.declared.Token.{Token}
 use Rattle.token.specs.declared.Token.the-variants.{String, Int64, Uint64, Double, Boolean}
 use Rattle.token.specs.Marks.{markOf, ofMark}

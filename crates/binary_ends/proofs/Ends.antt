@@ -11,8 +11,9 @@ use lib.IntN.{ℤ, pos, negsuc}
 use borrow.Author.Tests.{lt-ltb, le-ltb, ne-eqb}
 use Rattle.refusal.specs.Paper.{Paper, gives, more, refused, Got, got, Spot, spot, pick}
 use Rattle.varint.specs.Varint.{uvarintAt, uvarintEnd}
-use Rattle.varint.specs.Zigzag.{signed, signedAnswer, varintAt}
-use Rattle.varint.proofs.Zigzag.{even, odd}
+use Rattle.zigzag.specs.Zigzag.{signed}
+use Rattle.varint.specs.Signed.{signedAnswer, varintAt}
+use Rattle.zigzag.proofs.Laws.{even, odd}
 use Rattle.token.specs.declared.Token.{Token}
 use Rattle.token.specs.declared.Token.the-variants.{BeginAttributes, EndAttributes, BeginList, EndList, BeginMap, EndMap, String, Escaped, Int64, Uint64, Double, Decimal, Boolean, Entity, KeyValueSeparator, ItemSeparator}
 use Rattle.token.specs.declared.Mark.{Mark}

@@ -8,7 +8,7 @@ use lib.Count.{trailingZeros}
 use lib.ListN.{length, getD}
 use borrow.Author.Tests.{le-ltb}
 use Rattle.varint.specs.Varint.{uvarintAt, uvarintEnd}
-use Rattle.varint.specs.Zigzag.{varintAt}
+use Rattle.varint.specs.Signed.{varintAt}
 use Rattle.varint.proofs.Read.{one-byte}
 use Rattle.token.specs.Meaning.{kindsOf}
 use Rattle.token.specs.Ends.{endOf, stringEnd, scalarEnd}

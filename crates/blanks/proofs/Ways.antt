@@ -11,7 +11,8 @@ use lib.ListN.{length, getD, drop, drop-of-length-le}
 use lib.Seq.{drop-cons}
 use Rattle.search.proofs.Laws.{drop-more}
 use Rattle.refusal.specs.Paper.{pick}
-use Rattle.search.specs.First.{firstFrom, isByte}
+use Rattle.marks.specs.Classes.{isByte}
+use Rattle.search.specs.First.{firstFrom}
 use Rattle.search.proofs.Laws.{same-at-first}
 use Rattle.blanks.specs.Skip.{isBlank, ignored, inLine, inBlock, skipFrom}
 

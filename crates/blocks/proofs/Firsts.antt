@@ -12,7 +12,7 @@ use borrow.Author.Tests.{eqb-true, ne-eqb}
 use Rattle.refusal.specs.Paper.{Paper, gives, more, refused, Got, got, Spot, spot, pick}
 use Rattle.refusal.specs.declared.Format.the-variants.{Binary}
 use Rattle.varint.specs.Varint.{uvarintAt}
-use Rattle.varint.specs.Zigzag.{varintAt}
+use Rattle.varint.specs.Signed.{varintAt}
 use Rattle.token.specs.declared.Token.{Token}
 use Rattle.token.specs.declared.Token.the-variants as token
 use Rattle.token.specs.declared.Kind.{Kind}

@@ -2,7 +2,8 @@
 use mathlib.Core.Path.{refl}
 use Rattle.varint.specs.Varint.{run, number, uvarint, uvarintAt}
 use Rattle.varint.specs.Write.{encodeIn, encode, writeAnswer, writeBytes}
-use Rattle.varint.specs.Zigzag.{signed, twos, varintAt}
+use Rattle.zigzag.specs.Zigzag.{signed, twos}
+use Rattle.varint.specs.Signed.{varintAt}
 use Rattle.token.specs.Marks.{markOf}
 use Rattle.binary.specs.Binary.{doubleAt, marked, binaryFrom, binaryAt}
 use Rattle.binary.specs.Strings.{binaryStringAt}

@@ -9,7 +9,7 @@ use Rattle.refusal.specs.Paper.{Paper, gives, more, refused, Got, got}
 use Rattle.refusal.specs.declared.Format.{Format}
 use Rattle.refusal.specs.declared.Format.the-variants.{Binary, Text}
 use Rattle.varint.specs.Varint.{uvarintAt}
-use Rattle.varint.specs.Zigzag.{varintAt}
+use Rattle.varint.specs.Signed.{varintAt}
 use Rattle.lexer.specs.Lexer.{stringAt}
 use Rattle.scan.specs.Walk.{scanOf}
 

@@ -11,7 +11,7 @@ use lib.Ieee.{binary64, ofBits}
 use borrow.Author.Tests.{eqb-true}
 use Rattle.refusal.specs.Paper.{Paper, gives, more, refused, Got, got, Spot, spot, pick}
 use Rattle.varint.specs.Varint.{uvarintAt}
-use Rattle.varint.specs.Zigzag.{varintAt}
+use Rattle.varint.specs.Signed.{varintAt}
 use Rattle.token.specs.declared.Token.{Token}
 use Rattle.token.specs.declared.Token.the-variants.{BeginAttributes, EndAttributes, BeginList, EndList, BeginMap, EndMap, String, Int64, Uint64, Double, Boolean, Entity, KeyValueSeparator, ItemSeparator}
 use Rattle.token.specs.declared.Kind.{Kind}

@@ -14,7 +14,8 @@ use lib.Seq.{drop-cons}
 use Rattle.search.proofs.Laws.{drop-more}
 use Rattle.refusal.specs.Paper.{pick}
 use Rattle.refusal.proofs.Cases.{either}
-use Rattle.search.specs.First.{firstFrom, isOther}
+use Rattle.marks.specs.Classes.{isOther}
+use Rattle.search.specs.First.{firstFrom}
 use Rattle.search.proofs.Laws.{first-found, same-at-first, from-ge, from-le}
 use Rattle.token.specs.Digits.{isDigit}
 use Rattle.number.specs.Bytes.{isMinus, isSign, isPoint, isExponent, isPointed, isText, isUnsigned, starts, any}

@@ -10,7 +10,8 @@ use borrow.Author.Tests.{eqb-true, eqb-false, eq-eqb}
 use lib.Dec.{eqb}
 use lib.ListN.{length, getD, drop, take}
 use Rattle.refusal.specs.Paper.{pick}
-use Rattle.search.specs.First.{first, firstFrom, isQuote}
+use Rattle.marks.specs.Classes.{isQuote}
+use Rattle.search.specs.First.{first, firstFrom}
 use Rattle.pieces.specs.Pieces.{Walk, giving, walk}
 use Rattle.quoted.specs.Quoted.{closing, stands}
 use Rattle.quoted.specs.Inside.{plain}

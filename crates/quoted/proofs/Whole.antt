@@ -11,7 +11,8 @@ use lib.ListN.{length, getD, drop, take, length-drop}
 use lib.Seq.{drop-drop, take-all}
 use Rattle.refusal.specs.Paper.{pick}
 use Rattle.token.specs.Ends.{endOf}
-use Rattle.search.specs.First.{firstFrom, isQuote}
+use Rattle.marks.specs.Classes.{isQuote}
+use Rattle.search.specs.First.{firstFrom}
 use Rattle.search.proofs.Laws.{first-found, same-at-first}
 use Rattle.pieces.specs.Bytes.{hexDigit, octalDigit, isHex, isOctal}
 use Rattle.pieces.specs.Pieces.{End, closed, badHex, cut, Piece, byte, ends, hexOf, thirdOf, octalOf, escapeOf, Walk, walk}

@@ -12,7 +12,8 @@ use lib.Dec.{eqb, leb, ltb}
 use native.Mathlib.Nat.{le-refl}
 use lib.ListN.{length, getD, drop, drop-of-length-le, length-drop}
 use lib.Seq.{drop-cons}
-use Rattle.search.specs.First.{first, firstFrom, Before, isByte, isQuote, noLetter, isJoint, isEdge}
+use Rattle.marks.specs.Classes.{isByte, isQuote, noLetter}
+use Rattle.search.specs.First.{first, firstFrom, Before, isJoint, isEdge}
 
 -- the bytes from a place on: the one there, and those behind it
 pub drop-more : (s : List ℕ) (p : ℕ) → p < length s → drop p s ≡ getD s p 0 ∷ drop (p + 1) s
@@ -21,7 +22,7 @@ drop-more s p h = rw (add-one, drop-cons s p 0)
 module _ (f : ℕ → Bool) (s : List ℕ) (p : ℕ) where
   pub first-out : length s ≤ p → p ≡ firstFrom f s p
   unfolding first firstFrom
-  first-out h = rw (drop-of-length-le s h)
+  first-out h = rw (drop-of-length-le s h) refl
 
   pub first-here : p < length s → f (getD s p 0) ≡ true → p ≡ firstFrom f s p
   unfolding first firstFrom

@@ -1,4 +1,3 @@
--- Laws of searches: Laws by place, Marks from the marks of a word, Masks that mark each kind of byte.
+-- Laws of searches: Laws by place, Marks from the marks of a word.
 pub mod Laws
 mod Marks
-mod Masks

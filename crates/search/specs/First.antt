@@ -1,4 +1,4 @@
--- The first byte of a kind, byte by byte, and the kinds that are looked for.
+-- The first byte of a kind, byte by byte, and two kinds more than those of crate `marks`.
 use mathlib.Core.Path.{_≡_}
 use Prim.Native.Nat.{ℕ, _+_, _<_, _≤_}
 use mathlib.Core.Bool.{Bool, true, false, cond, not, _||_, _&&_}
@@ -17,22 +17,6 @@ firstFrom f s p = first f p (drop p s)
 -- of n bytes from the place p on r stand before the first for which f holds; all n where it holds of none
 abbrev pub Before : (ℕ → Bool) → List ℕ → ℕ → ℕ → ℕ → Type 0
 Before f s p n r = (r < n → p + r ≡ firstFrom f s p) × (r ≡ n → firstFrom f s (p + n) ≡ firstFrom f s p) × (r ≤ n)
-
--- one byte
-unfoldable pub isByte : ℕ → ℕ → Bool
-isByte c b = eqb b c
-
--- a quote or a backslash
-unfoldable pub isQuote : ℕ → Bool
-isQuote b = eqb b 34 || eqb b 92
-
--- no `0` to `9`
-unfoldable pub isOther : ℕ → Bool
-isOther b = not (leb 48 b && leb b 57)
-
--- no letter
-unfoldable pub noLetter : ℕ → Bool
-noLetter b = not ((leb 65 b && leb b 90) || (leb 97 b && leb b 122))
 
 -- a digit, `_`, `-` or `.`
 unfoldable pub isJoint : ℕ → Bool

@@ -1,61 +1,10 @@
 // Fast searches in bytes: the first place from a place on with a byte of a kind, or the end. specs/First.antt says what that is, byte by
-// byte. Here eight bytes are read as one number, and long runs are passed by blocks of 32 bytes; specs/Word.antt of crate `word` says how
-// such a number marks its bytes.
+// byte. Here eight bytes are looked at by their marks, which crate `marks` makes, and long runs are passed by blocks of 32 bytes.
 ghost use mathlib.Core.Path.{_≡_};
 ghost use Prim.Native.Nat.{_+_, _≤_, _<_};
 ghost use lib.ListN.{length};
-ghost use lib.Bits.{bitAnd, bitOr};
-ghost use Rattle.search.specs.First.{firstFrom, Before, isByte, isQuote, isOther, noLetter, isJoint, isEdge};
-ghost use Rattle.word.specs.Word.{marksAt};
-
-// The top bit of each byte that is not 0; the other bits say nothing.
-fn filled(x: u64) -> u64
-    ensures { λ r. ⌜ r ≡ bitOr (bitAnd x 9187201950435737471 + 9187201950435737471) x ⌝ }
-{
-    ((x & 0x7f7f_7f7f_7f7f_7f7f) + 0x7f7f_7f7f_7f7f_7f7f) | x
-}
-
-// A mark in the top bit of each of eight bytes that is `b`.
-fn byte_marks(s: &[u8], p: usize, b: u8) -> u64
-    ensures { λ r. ⌜ r ≡ marksAt (isByte b) 8 (now (s .entry)) p ⌝ }
-{
-    let w = word::word_at(s, p);
-    let f = filled(w ^ (b as u64 * 0x0101_0101_0101_0101));
-    (f & 0x8080_8080_8080_8080) ^ 0x8080_8080_8080_8080
-}
-
-// A mark in the top bit of each of eight bytes that is a quote or a backslash.
-fn quote_marks(s: &[u8], p: usize) -> u64
-    ensures { λ r. ⌜ r ≡ marksAt isQuote 8 (now (s .entry)) p ⌝ }
-{
-    let w = word::word_at(s, p);
-    let f = filled(w ^ 0x2222_2222_2222_2222) & filled(w ^ 0x5c5c_5c5c_5c5c_5c5c);
-    (f & 0x8080_8080_8080_8080) ^ 0x8080_8080_8080_8080
-}
-
-// A mark in the top bit of each of eight bytes that is no digit.
-fn other_marks(s: &[u8], p: usize) -> u64
-    ensures { λ r. ⌜ r ≡ marksAt isOther 8 (now (s .entry)) p ⌝ }
-{
-    let w = word::word_at(s, p);
-    let y = w & 0x7f7f_7f7f_7f7f_7f7f;
-    let from = y + 0x5050_5050_5050_5050;
-    let over = y + 0x4646_4646_4646_4646;
-    let f = from & (over ^ 0xffff_ffff_ffff_ffff) & (w ^ 0xffff_ffff_ffff_ffff);
-    (f & 0x8080_8080_8080_8080) ^ 0x8080_8080_8080_8080
-}
-
-// A mark in the top bit of each of eight bytes that is no letter.
-fn letter_marks(s: &[u8], p: usize) -> u64
-    ensures { λ r. ⌜ r ≡ marksAt noLetter 8 (now (s .entry)) p ⌝ }
-{
-    let w = word::word_at(s, p);
-    let z = (w & 0x7f7f_7f7f_7f7f_7f7f) | 0x2020_2020_2020_2020;
-    let from = z + 0x1f1f_1f1f_1f1f_1f1f;
-    let over = z + 0x0505_0505_0505_0505;
-    let f = from & ((over | w) ^ 0xffff_ffff_ffff_ffff);
-    (f & 0x8080_8080_8080_8080) ^ 0x8080_8080_8080_8080
-}
+ghost use Rattle.marks.specs.Classes.{isByte, isQuote, isOther};
+ghost use Rattle.search.specs.First.{firstFrom, Before, isJoint, isEdge};
 
 // Whether a byte is a quote or a backslash.
 fn is_quote(b: u8) -> bool
@@ -123,7 +72,7 @@ fn quote_words(s: &[u8], at: usize) -> usize
     let last = s.len() - 8;
     let mut p = at;
     while p <= last {
-        let m = quote_marks(s, p);
+        let m = marks::quote_marks(s, p);
         if m != 0 {
             return p + word::low_mark(m);
         }
@@ -163,7 +112,7 @@ fn byte_words(s: &[u8], at: usize, b: u8) -> usize
     let last = s.len() - 8;
     let mut p = at;
     while p <= last {
-        let m = byte_marks(s, p, b);
+        let m = marks::byte_marks(s, p, b);
         if m != 0 {
             return p + word::low_mark(m);
         }
@@ -191,7 +140,7 @@ fn before_in_8(s: &[u8], p: usize, b: u8) -> usize
     requires { ⌜ p + 8 ≤ length (now s) ⌝ }
     ensures { λ r. ⌜ Before (isByte b) (now (s .entry)) p 8 r ⌝ }
 {
-    word::low_mark(byte_marks(s, p, b))
+    word::low_mark(marks::byte_marks(s, p, b))
 }
 
 // What stands before the first, where `a` of eight bytes do, and `rest` of those behind them.
@@ -271,7 +220,7 @@ pub fn find_other(s: &[u8], at: usize) -> usize
     let last = s.len() - 8;
     let mut p = at;
     while p <= last {
-        let m = other_marks(s, p);
+        let m = marks::other_marks(s, p);
         if m != 0 {
             return p + word::low_mark(m);
         }
@@ -320,7 +269,7 @@ pub fn find_edge(s: &[u8], at: usize) -> usize
     let last = s.len() - 8;
     let mut p = at;
     while p <= last {
-        let m = letter_marks(s, p);
+        let m = marks::letter_marks(s, p);
         if m == 0 {
             p += 8;
         } else {

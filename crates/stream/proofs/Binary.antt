@@ -11,7 +11,7 @@ use Rattle.refusal.specs.Paper.{Paper, gives, more, refused, Got, got, Spot, pi
 use Rattle.token.specs.declared.Token.{Token}
 use Rattle.token.specs.Meaning.{kindsOf}
 use Rattle.varint.specs.Varint.{uvarintAt}
-use Rattle.varint.specs.Zigzag.{signedAnswer, varintAt}
+use Rattle.varint.specs.Signed.{signedAnswer, varintAt}
 use Rattle.word.proofs.Bytes.{word-same}
 use Rattle.binary.specs.Little.{little8}
 use Rattle.binary.specs.Binary.{ofSize, ofLength, doubleAt, marked, binaryFrom}

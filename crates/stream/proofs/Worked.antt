@@ -7,7 +7,8 @@ use lib.ListN.{replicate}
 use Rattle.refusal.specs.Paper.{gives}
 use Rattle.token.specs.Marks as marks
 use Rattle.varint.specs.Varint.{run, number, uvarint, uvarintAt}
-use Rattle.varint.specs.Zigzag.{signed, varintAt}
+use Rattle.zigzag.specs.Zigzag.{signed}
+use Rattle.varint.specs.Signed.{varintAt}
 use Rattle.binary.specs.Binary.{doubleAt, marked, binaryFrom}
 use Rattle.lexer.specs.Lexer.{tokenFrom, kindAt}
 use Rattle.automaton.specs.Step.{after, closed, opened, onObject, onValue, endList, endMap, endAttributes, onItem, onKey, onEquals, step}

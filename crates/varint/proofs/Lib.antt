@@ -1,6 +1,5 @@
 -- Laws that belong to no one function.
 pub mod Read
-pub mod Zigzag
 pub mod Write
 pub mod Round
 pub mod Extend

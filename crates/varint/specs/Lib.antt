@@ -1,5 +1,5 @@
 -- The definitions that the contracts of this crate cite, in the order to read them.
 pub mod Varint
-pub mod Zigzag
+pub mod Signed
 pub mod Write
 pub mod Meaning

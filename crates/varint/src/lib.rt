@@ -1,12 +1,12 @@
 // Varints, read and written: where does the number end that starts here, and what is it?
-// The definitions are `uvarintAt` and `varintAt` (specs/Varint.antt, specs/Zigzag.antt) for reading and `encode` (specs/Write.antt)
+// The definitions are `uvarintAt` and `varintAt` (specs/Varint.antt, specs/Signed.antt) for reading and `encode` (specs/Write.antt)
 // for writing, from the Protocol Buffers encoding document.
 ghost use mathlib.Core.Path.{_≡_};
 ghost use Prim.Native.Nat.{_≤_};
 ghost use lib.ListN.{length, take, drop};
-ghost use lib.Signed.{mag};
 ghost use Rattle.varint.specs.Varint.{run, number, uvarintAt, uvarintEnd};
-ghost use Rattle.varint.specs.Zigzag.{signed, twos, zigzag, varintAt};
+ghost use Rattle.zigzag.specs.Zigzag.{zigzag};
+ghost use Rattle.varint.specs.Signed.{varintAt};
 ghost use Rattle.varint.specs.Write.{encode, writeAnswer, writeBytes};
 ghost use Rattle.varint.specs.Meaning.{uvarintMeaning, varintMeaning, writtenMeaning};
 use refusal::Refusal;
@@ -140,30 +140,13 @@ pub fn uvarint_end(input: &[u8], at: usize) -> usize
     tenth_end(input, at)
 }
 
-// The signed number of a pattern of 64 bits, in two's complement.
-pub fn to_i64(pattern: u64) -> i64
-    ensures { λ r. ⌜ r ≡ twos pattern ⌝ }
-{
-    if pattern < 0x8000_0000_0000_0000 {
-        return pattern as i64;
-    }
-    -9223372036854775808 + (pattern - 0x8000_0000_0000_0000) as i64
-}
-
-// The signed number of a zigzag number: half of it, exclusive or with nought less its low bit, wrapping at 64 bits.
-fn unzigzag(n: u64) -> i64
-    ensures { λ r. ⌜ r ≡ signed n ⌝ }
-{
-    to_i64((n / 2) ^ std::num::wrapping_sub_u64(0, n % 2))
-}
-
 // The signed varint that starts at `at`. A refusal carries `at`.
 pub fn read_varint(input: &[u8], at: usize) -> Varint
     ensures { λ r. ⌜ varintMeaning r ≡ varintAt (now (input .entry)) at ⌝ }
 {
     match read_uvarint(input, at) {
         Uvarint::Value { value, next } => Varint::Value {
-            value: unzigzag(value),
+            value: zigzag::unzigzag(value),
             next,
         },
         Uvarint::More => Varint::More,
@@ -205,31 +188,10 @@ pub fn write_uvarint(value: u64, out: &mut [u8]) -> Written
     Written::Bytes { count: p + 1 }
 }
 
-// The number itself, or -1 less it where it is below nought.
-pub fn magnitude(v: i64) -> u64
-    ensures { λ r. ⌜ r ≡ mag v ⌝ }
-{
-    if v >= 0 {
-        return v as u64;
-    }
-    (-1 - v) as u64
-}
-
-// The zigzag number of a signed one.
-fn to_zigzag(v: i64) -> u64
-    ensures { λ r. ⌜ r ≡ zigzag v ⌝ }
-{
-    let m = magnitude(v);
-    if v >= 0 {
-        return m * 2;
-    }
-    m * 2 + 1
-}
-
 // The shortest form of a signed number, at the front of the output. A refusal writes nothing.
 pub fn write_varint(value: i64, out: &mut [u8]) -> Written
     ensures answer { λ r. ⌜ writtenMeaning r ≡ writeAnswer (length (now (out .entry))) (zigzag value) ⌝ }
     ensures bytes { λ r. ⌜ now (out .exit) ≡ writeBytes (now (out .entry)) (zigzag value) ⌝ }
 {
-    write_uvarint(to_zigzag(value), out)
+    write_uvarint(zigzag::to_zigzag(value), out)
 }

@@ -64,11 +64,11 @@ fn say_signed(v: i64) {
         say(b"-");
         io::print_decimal(
             STDOUT_FILENO,
-            std::num::wrapping_add_u64(varint::magnitude(v), 1),
+            std::num::wrapping_add_u64(zigzag::magnitude(v), 1),
         );
         return;
     }
-    io::print_decimal(STDOUT_FILENO, varint::magnitude(v));
+    io::print_decimal(STDOUT_FILENO, zigzag::magnitude(v));
 }
 
 // A number's bytes, and the number that they read as.

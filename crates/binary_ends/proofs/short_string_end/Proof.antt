@@ -2,7 +2,7 @@
 use mathlib.Core.Path.{_≡_, _∙_, sym, ap}
 use Prim.Native.Nat.{_+_}
 use denote.Ref.{now}
-use Rattle.varint.specs.Zigzag.{varintAt}
+use Rattle.varint.specs.Signed.{varintAt}
 use Rattle.varint.proofs.Read.{one-byte}
 use Rattle.token.specs.Meaning.{kindsOf}
 use Rattle.token.specs.Ends.{stringEnd}

@@ -3,7 +3,7 @@ use mathlib.Core.Path.{_≡_, _∙_, sym, ap}
 use Prim.Native.Nat.{_+_}
 use native.Mathlib.Omega.{arith}
 use denote.Ref.{now}
-use Rattle.varint.specs.Zigzag.{varintAt}
+use Rattle.varint.specs.Signed.{varintAt}
 use Rattle.token.specs.Meaning.{kindsOf}
 use Rattle.token.specs.Ends.{stringEnd}
 use Rattle.binary.specs.Binary.{marked}

@@ -5,7 +5,7 @@ use Prim.Native.Nat.{ℕ, _≤_, _-_}
 use native.Mathlib.Omega.{arith}
 use borrow.Author.Needs.{needs}
 use lib.ListN.{length, getD}
-use Rattle.search.specs.First.{isByte}
+use Rattle.marks.specs.Classes.{isByte}
 use Rattle.search.proofs.Laws.{found-on}
 use Rattle.blanks.specs.Skip.{isBlank, skipFrom}
 use Rattle.blanks.proofs.Ways.{blank-space, blank-above, lineFrom, blockFrom, blanks-more, blanks-end, blanks-stop, blanks-lone, open-line, open-block, open-none, line-end, line-more, line-out, block-end, block-star, block-last, block-more, block-out, line-jump, block-jump}

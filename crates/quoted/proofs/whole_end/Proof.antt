@@ -5,7 +5,7 @@ use Prim.Native.Nat.{_-_, _<_}
 use native.Mathlib.Omega.{arith}
 use borrow.Author.Needs.{needs}
 use lib.ListN.{length, getD}
-use Rattle.search.specs.First.{isQuote}
+use Rattle.marks.specs.Classes.{isQuote}
 use Rattle.search.proofs.Laws.{found-on}
 use Rattle.pieces.specs.Pieces.{badHex, cut}
 use Rattle.pieces.specs.Answers.{pieceMeaning}

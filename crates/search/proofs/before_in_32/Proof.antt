@@ -1,6 +1,6 @@
 -- `before_in_32` meets its contract: nothing is found where no byte is marked, and else a word stands behind words that hold none.
 use Rattle.search.proofs.Laws.{before-join}
-use Rattle.search.specs.First.{isByte}
+use Rattle.marks.specs.Classes.{isByte}
 use native.Mathlib.Omega.{arith}
 use borrow.Author.Needs.{needs}
 use Rattle.search.proofs.before_in_32.Statement.{statement}

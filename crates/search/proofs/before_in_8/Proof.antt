@@ -1,6 +1,6 @@
 -- `before_in_8` meets its contract: the marks of a word say where the first stands.
 use Rattle.search.proofs.Marks.{word-before}
-use Rattle.search.specs.First.{isByte}
+use Rattle.marks.specs.Classes.{isByte}
 use native.Mathlib.Omega.{arith}
 use borrow.Author.Needs.{needs}
 use Rattle.search.proofs.before_in_8.Statement.{statement}

@@ -1,6 +1,7 @@
 -- `byte_bytes` meets its contract: from each place that it passes, the place found is the same.
 use Rattle.search.proofs.Laws.{first-out, byte-here, byte-more}
-use Rattle.search.specs.First.{firstFrom, isByte}
+use Rattle.marks.specs.Classes.{isByte}
+use Rattle.search.specs.First.{firstFrom}
 use lib.ListN.{length}
 use denote.Ref.{now}
 use borrow.Author.Needs.{needs}

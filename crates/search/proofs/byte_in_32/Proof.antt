@@ -1,6 +1,7 @@
 -- `byte_in_32` meets its contract: while no byte is marked, the place found is the same.
 use Rattle.search.proofs.Laws.{again}
-use Rattle.search.specs.First.{firstFrom, isByte}
+use Rattle.marks.specs.Classes.{isByte}
+use Rattle.search.specs.First.{firstFrom}
 use borrow.Author.Needs.{needs}
 use lib.ListN.{length, getD}
 use native.Mathlib.Omega.{arith}

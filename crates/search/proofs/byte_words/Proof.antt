@@ -1,6 +1,7 @@
 -- `byte_words` meets its contract: a word without a mark is passed, and the lowest mark is the place found.
 use Rattle.search.proofs.Marks.{word-none, word-some}
-use Rattle.search.specs.First.{firstFrom, isByte}
+use Rattle.marks.specs.Classes.{isByte}
+use Rattle.search.specs.First.{firstFrom}
 use lib.ListN.{length}
 use borrow.Author.Needs.{needs}
 use native.Mathlib.Omega.{arith}

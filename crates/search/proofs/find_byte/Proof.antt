@@ -1,5 +1,6 @@
 -- `find_byte` meets its contract: a block that holds none is passed, and in another stands the place found.
-use Rattle.search.specs.First.{firstFrom, isByte}
+use Rattle.marks.specs.Classes.{isByte}
+use Rattle.search.specs.First.{firstFrom}
 use lib.ListN.{length}
 use borrow.Author.Needs.{needs}
 use native.Mathlib.Omega.{arith}

@@ -1,7 +1,8 @@
 -- `find_edge` meets its contract: letters are passed, and the first other byte is an edge or passed too.
 use Rattle.search.proofs.Marks.{word-none, word-some, word-lt}
 use Rattle.search.proofs.Laws.{edge-letters, edge-here, edge-more}
-use Rattle.search.specs.First.{firstFrom, noLetter, isEdge}
+use Rattle.marks.specs.Classes.{noLetter}
+use Rattle.search.specs.First.{firstFrom, isEdge}
 use lib.ListN.{length}
 use borrow.Author.Needs.{needs}
 use borrow.Author.Tests.{not-true, not-false}

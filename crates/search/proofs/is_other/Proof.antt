@@ -1,6 +1,6 @@
 -- `is_other` meets its contract.
 use mathlib.Core.Path.{refl}
-use Rattle.search.specs.First.{isOther}
+use Rattle.marks.specs.Classes.{isOther}
 use Rattle.search.proofs.is_other.Statement.{statement}
 use Rattle.search.proofs.is_other.Tie as tie
 

@@ -1,6 +1,6 @@
 -- `is_quote` meets its contract.
 use mathlib.Core.Path.{refl}
-use Rattle.search.specs.First.{isQuote}
+use Rattle.marks.specs.Classes.{isQuote}
 use Rattle.search.proofs.is_quote.Statement.{statement}
 use Rattle.search.proofs.is_quote.Tie as tie
 

@@ -1,6 +1,7 @@
 -- `other_bytes` meets its contract: from each place that it passes, the place found is the same.
 use Rattle.search.proofs.Laws.{first-out, first-here, first-more}
-use Rattle.search.specs.First.{firstFrom, isOther}
+use Rattle.marks.specs.Classes.{isOther}
+use Rattle.search.specs.First.{firstFrom}
 use lib.ListN.{length}
 use borrow.Author.Needs.{needs}
 use native.Mathlib.Omega.{arith}

@@ -1,5 +1,6 @@
 -- `past_unquoted` meets its contract: each block passed holds nothing.
-use Rattle.search.specs.First.{firstFrom, isQuote}
+use Rattle.marks.specs.Classes.{isQuote}
+use Rattle.search.specs.First.{firstFrom}
 use lib.ListN.{length}
 use borrow.Author.Needs.{needs}
 use native.Mathlib.Omega.{arith}

@@ -1,6 +1,7 @@
 -- `quote_bytes` meets its contract: from each place that it passes, the place found is the same.
 use Rattle.search.proofs.Laws.{first-out, first-here, first-more}
-use Rattle.search.specs.First.{firstFrom, isQuote}
+use Rattle.marks.specs.Classes.{isQuote}
+use Rattle.search.specs.First.{firstFrom}
 use lib.ListN.{length}
 use borrow.Author.Needs.{needs}
 use native.Mathlib.Omega.{arith}

@@ -1,6 +1,7 @@
 -- `quote_in_32` meets its contract: while no byte is marked, the place found is the same.
 use Rattle.search.proofs.Laws.{again-both, or-none}
-use Rattle.search.specs.First.{firstFrom, isQuote}
+use Rattle.marks.specs.Classes.{isQuote}
+use Rattle.search.specs.First.{firstFrom}
 use borrow.Author.Needs.{needs}
 use lib.ListN.{length, getD}
 use native.Mathlib.Omega.{arith}

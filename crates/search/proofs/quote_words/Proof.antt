@@ -1,6 +1,7 @@
 -- `quote_words` meets its contract: a word without a mark is passed, and the lowest mark is the place found.
 use Rattle.search.proofs.Marks.{word-none, word-some}
-use Rattle.search.specs.First.{firstFrom, isQuote}
+use Rattle.marks.specs.Classes.{isQuote}
+use Rattle.search.specs.First.{firstFrom}
 use lib.ListN.{length}
 use borrow.Author.Needs.{needs}
 use native.Mathlib.Omega.{arith}

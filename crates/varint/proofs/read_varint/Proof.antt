@@ -4,7 +4,7 @@ use lib.IntN.{ℤ}
 use mir.Syntax.{w64}
 use mir.ValLaws.{toZ-ofZ}
 use borrow.Author.Needs.{needs}
-use Rattle.varint.specs.Zigzag.{signedAnswer, varintAt}
+use Rattle.varint.specs.Signed.{signedAnswer, varintAt}
 use Rattle.varint.specs.Meaning.{uvarintMeaning}
 use Rattle.varint.proofs.Read.{giving}
 use Rattle.varint.proofs.read_varint.Statement.{statement}

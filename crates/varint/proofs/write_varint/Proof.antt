@@ -2,11 +2,12 @@
 use mathlib.Core.Path.{_≡_, _∙_, sym, ap}
 use Prim.Native.Nat.{ℕ}
 use mir.Syntax.{w64}
+use mir.Val.{toZ, ofZ}
 use mir.ValLaws.{toZ-ofZ}
 use lib.ListN.{length}
 use denote.Ref.{now}
 use borrow.Author.Needs.{needs}
-use Rattle.varint.specs.Zigzag.{zigzag}
+use Rattle.zigzag.specs.Zigzag.{zigzag}
 use Rattle.varint.specs.Write.{writeAnswer, writeBytes}
 use Rattle.varint.proofs.write_varint.Statement.{statement}
 use Rattle.varint.proofs.write_varint.Tie as tie
@@ -24,7 +25,8 @@ returns : tie.Need-returns
 returns c =
     let x = c .before .before .before .before .before .before in
     let out = now (x .args .out) in
-    let z = c .before .before .before .before .to-zigzag .ensures ∙ ap zigzag (toZ-ofZ w64 (x .args .value) (x .fits .value)) in
+    let number : _ ≡ zigzag (toZ w64 (ofZ w64 (x .args .value))) = c .before .before .before .before .to-zigzag .ensures in
+    let z = number ∙ ap zigzag (toZ-ofZ w64 (x .args .value) (x .fits .value)) in
     let w = c .before .before .write-uvarint .ensures in
     (w .0 ∙ ap (λ (n : ℕ). writeAnswer (length out) n) z, w .1 ∙ ap (λ (n : ℕ). writeBytes out n) z)
 

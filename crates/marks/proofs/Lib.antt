@@ -1,0 +1,2 @@
+-- Laws of marks: Masks that mark each kind of byte.
+mod Masks

@@ -1,0 +1,2 @@
+-- Kinds of bytes.
+pub mod Classes

@@ -1,0 +1,2 @@
+-- Signed numbers as numbers of 64 bits.
+pub mod Zigzag
