@@ -495,6 +495,18 @@ fn framed(
     stream(rest, chunk, &mut area[..n], out, f)
 }
 
+// The stream of a case, over a buffer of so many bytes and from a start offset on.
+fn begun(rest: u64, n: usize, start: u64, chunk: &mut [u8], area: &mut [u8], out: &mut [u8]) -> Go {
+    if 65537 < n {
+        return passed_over(rest, chunk, out, b"too long\n");
+    }
+    if chunk.len() < n {
+        return passed_over(rest, chunk, out, b"too long\n");
+    }
+    let opened = reader::open(start, &chunk[..n]);
+    framed(rest, n, opened, chunk, area, out)
+}
+
 // One case of so many bytes, from an empty output on.
 pub fn answer(whole: u64, chunk: &mut [u8], area: &mut [u8], out: &mut [u8]) -> Go {
     if whole < 12 {
@@ -508,13 +520,5 @@ pub fn answer(whole: u64, chunk: &mut [u8], area: &mut [u8], out: &mut [u8]) -> 
     }
     let n = read::little4(chunk, 0);
     let start = read::little8(chunk, 4);
-    let rest = whole - 12;
-    if 65537 < n {
-        return passed_over(rest, chunk, out, b"too long\n");
-    }
-    if chunk.len() < n {
-        return passed_over(rest, chunk, out, b"too long\n");
-    }
-    let opened = reader::open(start, &chunk[..n]);
-    framed(rest, n, opened, chunk, area, out)
+    begun(whole - 12, n, start, chunk, area, out)
 }

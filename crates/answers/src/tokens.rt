@@ -78,16 +78,24 @@ fn put_boolean(out: &mut [u8], n: usize, q: bool) -> usize {
     output::put_word(out, n, b"false")
 }
 
-// A token with the place of its first byte and the place after it, or why there is none.
+// ` end ` and a place.
+fn put_end(out: &mut [u8], n: usize, end: usize) -> usize {
+    let a = output::put_word(out, n, b" end ");
+    output::put_decimal(out, a, end as u64)
+}
+
+// A token with the place of its first byte and the place after it.
+fn put_placed(out: &mut [u8], n: usize, token: Token, first: usize, next: usize) -> usize {
+    let a = put_token(out, n, token);
+    let b = output::put_word(out, a, b" at ");
+    let c = output::put_decimal(out, b, first as u64);
+    put_end(out, c, next)
+}
+
+// The same, or why there is none.
 fn put_read(out: &mut [u8], n: usize, answer: Read) -> usize {
     match answer {
-        Read::Token { token, first, next } => {
-            let a = put_token(out, n, token);
-            let b = output::put_word(out, a, b" at ");
-            let c = output::put_decimal(out, b, first as u64);
-            let d = output::put_word(out, c, b" end ");
-            output::put_decimal(out, d, next as u64)
-        }
+        Read::Token { token, first, next } => put_placed(out, n, token, first, next),
         Read::Incomplete => output::put_word(out, n, b"more"),
         Read::Refused { refusal } => text::put_refusal(out, n, refusal),
         Read::Beyond => text::put_cause(out, n, Cause::BeyondSlice),
@@ -107,15 +115,16 @@ pub fn token(payload: &[u8], format: Format, out: &mut [u8], n: usize) -> usize 
     text::put_newline(out, a)
 }
 
+// How many bytes a string has, and the place after it.
+fn put_counted(out: &mut [u8], n: usize, count: usize, next: usize) -> usize {
+    let a = put_number(out, n, b"string ", count as u64);
+    put_end(out, a, next)
+}
+
 // What asking for a string's bytes answered, without the output.
 fn put_unescaped(out: &mut [u8], n: usize, answer: Unescaped) -> usize {
     match answer {
-        Unescaped::Bytes { count, next } => {
-            let a = output::put_word(out, n, b"string ");
-            let b = output::put_decimal(out, a, count as u64);
-            let c = output::put_word(out, b, b" end ");
-            output::put_decimal(out, c, next as u64)
-        }
+        Unescaped::Bytes { count, next } => put_counted(out, n, count, next),
         Unescaped::Incomplete => output::put_word(out, n, b"more"),
         Unescaped::Refused { refusal } => text::put_refusal(out, n, refusal),
         Unescaped::Beyond => text::put_cause(out, n, Cause::BeyondSlice),

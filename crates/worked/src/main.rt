@@ -252,35 +252,60 @@ fn varints() {
     unsigned(1);
     unsigned(150);
     unsigned(300);
+    zigzags();
+    read_signed(b"\xff\xff\xff\xff\xff\xff\xff\xff\xff\x01");
+    read_signed(b"\x96\x01");
+}
+
+fn zigzags() {
     zigzag(0);
     zigzag(-1);
     zigzag(1);
     zigzag(-2);
     zigzag(2147483647);
     zigzag(-2147483648);
-    read_signed(b"\xff\xff\xff\xff\xff\xff\xff\xff\xff\x01");
-    read_signed(b"\x96\x01");
 }
 
 // Document 01 and the documentation of f64::from_str.
 fn numbers() {
     say(b"numbers\n");
+    signs();
+    doubles();
+    no_digits();
+    limits();
+    percents();
+}
+
+fn signs() {
     number(b"12");
     number(b"-0u");
     number(b"+5u");
     number(b"5.");
     number(b"-.5");
+}
+
+fn doubles() {
     number(b"3.14");
     number(b"-3.14");
     number(b"2.5E10");
     number(b"2.5e10");
     number(b"2.5E-10");
+}
+
+fn no_digits() {
     number(b"1e");
     number(b"-");
+}
+
+// The ends of int64 and of uint64.
+fn limits() {
     number(b"9223372036854775808");
     number(b"-9223372036854775808");
     number(b"18446744073709551615u");
     number(b"18446744073709551616u");
+}
+
+fn percents() {
     number(b"%tr");
     number(b"%nan");
     number(b"%inf");
@@ -291,37 +316,61 @@ fn numbers() {
 
 fn strings() {
     say(b"strings\n");
-    string(b"\"\\400\"");
-    string(b"\"\\x+4\"");
-    string(b"\"\\x\"");
-    string(b"\"\\xzz\"");
-    string(b"\"\\u0041\"");
-    string(b"\"\\0000\"");
+    escapes();
     string(b"\"a\\n\\\"b\\\\\"");
     string(b"name-1.x");
     string(b"12");
     string(b"\"0123456789abcdefg\"");
 }
 
+fn escapes() {
+    string(b"\"\\400\"");
+    string(b"\"\\x+4\"");
+    string(b"\"\\x\"");
+    string(b"\"\\xzz\"");
+    string(b"\"\\u0041\"");
+    string(b"\"\\0000\"");
+}
+
 // Places and orders of refusals.
 fn scans() {
     say(b"scans\n");
+    values();
+    tokens_in_a_row();
+    ignored();
+    binary_strings();
+    binary_values();
+}
+
+fn values() {
     text(b"12");
     text(b"%tr");
     text(b"<a=1>{b=2}");
     text(b"{a=1b=2}");
     text(b"[;1;;2 3]");
+}
+
+fn tokens_in_a_row() {
     text(b"[1-2]");
     text(b"{a=1e=2}");
     text(b"5uu");
     text(b"[<>]");
     text(b";1");
+}
+
+fn ignored() {
     text(b"<;>#");
     text(b"// c");
     text(b"/");
     text(b"{a=\"x\\y\";b=[%true;#]}");
+}
+
+fn binary_strings() {
     binary(b"\x01\x04ab");
     binary(b"[ ]");
+}
+
+fn binary_values() {
     binary(b"{\x02\x80");
     binary(b"{\x02\x80\x80\x80\x80\x80\x80\x80\x80\x80\x02");
     binary(b"{\x02\x00");

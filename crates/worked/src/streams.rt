@@ -219,19 +219,22 @@ fn strange(buf: &mut [u8], short: &[u8]) {
 }
 
 pub fn all() {
+    say(b"streams\n");
+    openings();
     let short = [0u8; 63];
     let mut small = [0u8; 64];
-    let large = [0u8; 65536];
-    let larger = [0u8; 65537];
-    say(b"streams\n");
-    show_opening(&short);
-    show_opening(&small);
-    show_opening(&large);
-    show_opening(&larger);
     in_pieces(&mut small);
     malformed(&mut small);
     cut_short(&mut small);
     too_long(&mut small);
     offset_too_high(&mut small);
     strange(&mut small, &short);
+}
+
+// Buffers of the lengths at the limits and beyond them.
+fn openings() {
+    show_opening(&[0u8; 63]);
+    show_opening(&[0u8; 64]);
+    show_opening(&[0u8; 65536]);
+    show_opening(&[0u8; 65537]);
 }

@@ -153,14 +153,26 @@ fn peek(bytes: &[u8], at: usize) {
 // The tokens of document 01's three records and of some text, whole, refused and cut short.
 pub fn all() {
     say(b"tokens\n");
+    in_binary();
+    in_text();
+    peeks();
+}
+
+fn in_binary() {
     binary_tokens(b"{\x01\x02a=\x02\x02}");
     binary_tokens(b"[\x02\x02\x02\x04]");
     binary_tokens(b"<>#");
     binary_tokens(b"[ ]");
     binary_tokens(b"[\x01\x04a");
+}
+
+fn in_text() {
     text_tokens(b"<a=1>{b=\"x\\n\";c=[%true;#;-5;5u;5.]} // d");
     text_tokens(b"[1 2 \"");
     text_tokens(b"a/b");
+}
+
+fn peeks() {
     peek(b" /* a */ [", 0);
     peek(b" /* a */ [", 10);
     peek(b" /* a */ [", 11);
