@@ -2,7 +2,7 @@
 use mathlib.Core.Path.{_≡_, refl, ap, sym, _∙_}
 use mathlib.Core.Bool.{Bool, true, false}
 use mathlib.Core.List.{List, [], _∷_}
-use Prim.Native.Nat.{ℕ, suc, _+_, _≤_, _<_}
+use Prim.Native.Nat.{ℕ, suc, _+_, _-_, _≤_, _<_}
 use native.Mathlib.Numerals.{add-one}
 use native.Mathlib.Omega.{arith}
 use borrow.Author.Tests.{eq-eqb, ne-eqb, eqb-false}
@@ -33,6 +33,17 @@ blank-space b e = rw e
 pub blank-above : (b : ℕ) → 32 < b → isBlank b ≡ false
 unfolding isBlank
 blank-above b h = rw (ne-eqb b 9 (λ e. omega arith), ne-eqb b 10 (λ e. omega arith), ne-eqb b 12 (λ e. omega arith), ne-eqb b 13 (λ e. omega arith), ne-eqb b 32 (λ e. omega arith))
+
+pub blank-past : (b : ℕ) → (b ≡ 32 → ⊥) → 32 ≤ b → isBlank b ≡ false
+blank-past b n h = blank-above b (omega arith)
+
+-- from a later place it is less far to the end
+pub nearer : {n p q : ℕ} → p + 1 ≤ q → p < n → n - q < n - p
+nearer h i = omega arith
+
+-- and what lay before the place lies before the later one
+pub onward : {o p q : ℕ} → o ≤ p → p + 1 ≤ q → o ≤ q
+onward h i = omega arith
 
 -- the first place that is not ignored, from inside a comment of either kind
 unfoldable pub lineFrom : List ℕ → ℕ → ℕ

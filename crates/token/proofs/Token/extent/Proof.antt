@@ -1,139 +1,17 @@
--- `Token::extent` meets its contract.
-use mathlib.Core.Path.{sym, ap}
+-- `Token::extent` meets its contract: each arm returns what the definition says of the token that it is for.
+use mathlib.Core.Path.{_≡_, sym, ap}
 use Rattle.token.specs.Meaning.{extentOf}
-use borrow.Author.Needs.{needs}
+use Rattle.token.specs.declared.Token.{Token}
 use Rattle.token.proofs.Token.extent.Statement.{statement}
 use Rattle.token.proofs.Token.extent.Tie as tie
 
-enum-told : tie.Need-enum-told
-enum-told c = search needs
-
-enum-told-2 : tie.Need-enum-told-2
-enum-told-2 c = search needs
-
-enum-told-3 : tie.Need-enum-told-3
-enum-told-3 c = search needs
-
-enum-told-4 : tie.Need-enum-told-4
-enum-told-4 c = search needs
-
-enum-told-5 : tie.Need-enum-told-5
-enum-told-5 c = search needs
-
-enum-told-6 : tie.Need-enum-told-6
-enum-told-6 c = search needs
-
-enum-known-self : tie.Need-enum-known-self
-enum-known-self c = search needs
-
-enum-known-self-2 : tie.Need-enum-known-self-2
-enum-known-self-2 c = search needs
-
-enum-told-7 : tie.Need-enum-told-7
-enum-told-7 c = search needs
-
-enum-told-8 : tie.Need-enum-told-8
-enum-told-8 c = search needs
-
-enum-told-9 : tie.Need-enum-told-9
-enum-told-9 c = search needs
-
-enum-told-10 : tie.Need-enum-told-10
-enum-told-10 c = search needs
-
-enum-told-11 : tie.Need-enum-told-11
-enum-told-11 c = search needs
-
-enum-told-12 : tie.Need-enum-told-12
-enum-told-12 c = search needs
-
-enum-told-13 : tie.Need-enum-told-13
-enum-told-13 c = search needs
-
-enum-told-14 : tie.Need-enum-told-14
-enum-told-14 c = search needs
-
-returns : tie.Need-returns
-returns c = search needs
-
-returns-2 : tie.Need-returns-2
-returns-2 c = search needs
-
-returns-3 : tie.Need-returns-3
-returns-3 c = search needs
-
-returns-4 : tie.Need-returns-4
-returns-4 c = search needs
-
-returns-5 : tie.Need-returns-5
-returns-5 c = search needs
-
-returns-6 : tie.Need-returns-6
-returns-6 c = search needs
-
-returns-7 : tie.Need-returns-7
-returns-7 c = ap extentOf (sym (c .before .self .given .1))
-
-returns-8 : tie.Need-returns-8
-returns-8 c = ap extentOf (sym (c .before .self2 .given .1))
-
-returns-9 : tie.Need-returns-9
-returns-9 c = search needs
-
-returns-10 : tie.Need-returns-10
-returns-10 c = search needs
-
-returns-11 : tie.Need-returns-11
-returns-11 c = search needs
-
-returns-12 : tie.Need-returns-12
-returns-12 c = search needs
-
-returns-13 : tie.Need-returns-13
-returns-13 c = search needs
-
-returns-14 : tie.Need-returns-14
-returns-14 c = search needs
-
-returns-15 : tie.Need-returns-15
-returns-15 c = search needs
-
-returns-16 : tie.Need-returns-16
-returns-16 c = search needs
+-- what is said of the variant that an arm is for is said of the value that it is
+arm : {x y : Token} → x ≡ y → extentOf y ≡ extentOf x
+arm e = ap extentOf (sym e)
 
 pub extent-spec : {M : Type 1} → statement M
 extent-spec =
     tie.close
     (tie.spec
-    enum-told
-    enum-told-2
-    enum-told-3
-    enum-told-4
-    enum-told-5
-    enum-told-6
-    enum-known-self
-    enum-known-self-2
-    enum-told-7
-    enum-told-8
-    enum-told-9
-    enum-told-10
-    enum-told-11
-    enum-told-12
-    enum-told-13
-    enum-told-14
-    returns
-    returns-2
-    returns-3
-    returns-4
-    returns-5
-    returns-6
-    returns-7
-    returns-8
-    returns-9
-    returns-10
-    returns-11
-    returns-12
-    returns-13
-    returns-14
-    returns-15
-    returns-16)
+    (λ c. c .match .keys1) (λ c. c .match .keys2) (λ c. c .match .keys3) (λ c. c .match .keys4) (λ c. c .match .keys5) (λ c. c .match .keys6) (λ c. c .match .keys7) (λ c. c .match .keys8) (λ c. c .match .keys9) (λ c. c .match .keys10) (λ c. c .match .keys11) (λ c. c .match .keys12) (λ c. c .match .keys13) (λ c. c .match .keys14) (λ c. c .match .keys15) (λ c. c .match .keys16)
+    (λ c. arm (c .enum-told .given .1)) (λ c. arm (c .enum-told2 .given .1)) (λ c. arm (c .enum-told3 .given .1)) (λ c. arm (c .enum-told4 .given .1)) (λ c. arm (c .enum-told5 .given .1)) (λ c. arm (c .enum-told6 .given .1)) (λ c. arm (c .before .self .given .1)) (λ c. arm (c .before .self2 .given .1)) (λ c. arm (c .enum-told7 .given .1)) (λ c. arm (c .enum-told8 .given .1)) (λ c. arm (c .enum-told9 .given .1)) (λ c. arm (c .enum-told10 .given .1)) (λ c. arm (c .enum-told11 .given .1)) (λ c. arm (c .enum-told12 .given .1)) (λ c. arm (c .enum-told13 .given .1)) (λ c. arm (c .enum-told14 .given .1)))
