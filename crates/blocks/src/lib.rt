@@ -1,5 +1,5 @@
 // What do the tokens of a record do to its open blocks, and how far do they go? `pass` reads them from a kept place on, and
-// specs/Readings.antt decides it with the automaton of crate `scan`. Crate `kept` says how the open blocks are kept between pieces.
+// specs/Readings.antt decides it with the automaton of crate `automaton`. Crate `kept` says how the open blocks are kept between pieces.
 ghost use mathlib.Core.Path.{_≡_};
 ghost use Prim.Native.Nat.{_≤_, _<_};
 ghost use lib.ListN.{length};

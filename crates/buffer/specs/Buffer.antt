@@ -23,7 +23,7 @@ separators (b ∷ rest) = pick (isSeparator b) (suc (separators rest)) 0
 abbrev pub placed : ℕ → ℕ → ℕ → Bool
 placed start filled n = leb start filled && leb filled n
 
--- as much of a piece of m bytes as there is room for behind the bytes from start up to filled, of n; nothing where these are none
+-- as much of a piece of m bytes as there is room for behind the bytes from start up to filled, of n; nothing where the places are not in that order
 unfoldable pub takenBehind : ℕ → ℕ → ℕ → ℕ → ℕ
 takenBehind start filled n m = pick (placed start filled n) (min m (n - (filled - start))) 0
 

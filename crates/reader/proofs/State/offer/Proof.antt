@@ -26,7 +26,7 @@ returns c = (simp (sym (c .before .fits-together .ensures) ∙ not-true _ (c .if
 
 returns-2 : tie.Need-returns-2
 unfolding offerOf bufferOf
-returns-2 c = (simp (sym (c .before .before .fits-together .ensures) ∙ not-false _ (c .before .if1 .left), c .if2 .taken), simp (sym (c .before .before .fits-together .ensures) ∙ not-false _ (c .before .if1 .left), c .if2 .taken))
+returns-2 c = (simp (sym (c .before .before .fits-together .ensures) ∙ not-false _ (c .before .if1 .left), c .if2 .taken) refl, simp (sym (c .before .before .fits-together .ensures) ∙ not-false _ (c .before .if1 .left), c .if2 .taken) refl)
 
 sub-held : tie.Need-sub-held
 sub-held c = ordered (fits-at (c .before))
@@ -39,7 +39,7 @@ sub-if3 c = fits-at (c .before) .sum
 
 returns-3 : tie.Need-returns-3
 unfolding offerOf bufferOf
-returns-3 c = (simp (sym (c .before .before .before .fits-together .ensures) ∙ not-false _ (c .before .before .if1 .left), c .before .if2 .left, lt-ltb _ _ (c .if3 .taken)), simp (sym (c .before .before .before .fits-together .ensures) ∙ not-false _ (c .before .before .if1 .left), c .before .if2 .left, lt-ltb _ _ (c .if3 .taken)))
+returns-3 c = (simp (sym (c .before .before .before .fits-together .ensures) ∙ not-false _ (c .before .before .if1 .left), c .before .if2 .left, lt-ltb _ _ (c .if3 .taken)) refl, simp (sym (c .before .before .before .fits-together .ensures) ∙ not-false _ (c .before .before .if1 .left), c .before .if2 .left, lt-ltb _ _ (c .if3 .taken)) refl)
 
 refill-requires : tie.Need-refill-requires
 refill-requires c κs = search needs
