@@ -4,13 +4,14 @@ use mathlib.Core.Bool.{Bool, true, false}
 use mathlib.Core.List.{List, [], _∷_, _++_, append-nil, append-assoc}
 use Prim.Native.Nat.{ℕ, suc, _+_, _-_, _≤_}
 use native.Mathlib.Omega.{arith}
-use lib.Dec.{eqb, ltb}
+use lib.Dec.{eqb}
 use lib.ListN.{length, take, drop, length-append, take-append-drop}
 use lib.Seq.{slice, slice-empty, length-slice, length-take-le, take-take, drop-append-le}
 use borrow.Author.Tests.{le-ltb}
 use Rattle.refusal.specs.Paper.{Paper, gives, more, refused, pick}
 use Rattle.blocks.specs.Readings.{Reached, Reader, Grows}
 use Rattle.reader.specs.declared.State.{State}
+use Rattle.places.specs.Places.{isBuffer}
 use Rattle.reader.specs.Fits.{fits, Fitting}
 use Rattle.reader.specs.Meaning.{Done, done, Handed, Told, Looked}
 use Rattle.reader.specs.Calls.{newState, openOf, bufferedOf, closeOf, stateAt, skippedOf, readOf, waitOf, handOut, lookOf, nextBy}
@@ -165,9 +166,9 @@ waits-parts start l now (still-open h c) = refl
 opened-state : (o n : ℕ) → openOf o n .answer ≡ gives done → openOf o n .state ≡ newState n o
 unfolding openOf
 opened-state o n =
-    pick-case (λ (x : Told Done). x .answer ≡ gives done → x .state ≡ newState n o) (ltb n _) _ _ (λ _ e. let z : _≡_ {A = ℕ} 0 1 = cc in absurd (omega arith))
-    λ _. pick-case (λ (x : Told Done). x .answer ≡ gives done → x .state ≡ newState n o) (ltb _ n) _ _ (λ _ e. let z : _≡_ {A = ℕ} 0 1 = cc in absurd (omega arith))
-    λ _ e. refl
+    pick-case (λ (x : Told Done). x .answer ≡ gives done → x .state ≡ newState n o) (isBuffer n) _ _
+    (λ _ e. refl)
+    (λ _ e. let z : _≡_ {A = ℕ} 0 1 = cc in absurd (omega arith))
 
 module _ (t : Reader) (G : Grows t) where
   look-accounted : (s : State) (l : List ℕ) → Fitting s (length l) → Accounted s l (cameOf s l (lookOf t (skippedOf s l) l))

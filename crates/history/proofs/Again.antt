@@ -5,7 +5,7 @@ use mathlib.Core.Logic.{_⊎_, inl, inr}
 use mathlib.Core.List.{List, []}
 use Prim.Native.Nat.{ℕ, zero, suc, _+_, _-_, _≤_}
 use native.Mathlib.Omega.{arith}
-use lib.Dec.{eqb, ltb}
+use lib.Dec.{eqb}
 use lib.ListN.{length}
 use lib.Seq.{length-slice}
 use borrow.Author.Tests.{eqb-true, le-ltb}
@@ -16,6 +16,7 @@ use Rattle.blocks.specs.Readings.{Reached, Reader, Grows}
 use Rattle.blocks.proofs.Ranged.{ranged}
 use Rattle.reader.specs.declared.State.{State}
 use Rattle.reader.specs.declared.Mark.{Mark}
+use Rattle.places.specs.Places.{isBuffer}
 use Rattle.reader.specs.Fits.{heldOf, fits}
 use Rattle.reader.specs.Meaning.{Done, Handed, handed, ended, Told, told, Looked, looked}
 use Rattle.reader.specs.Calls.{newState, openOf, bufferedOf, offerOf, bufferOf, closeOf, stateAt, skippedOf, readOf, handOut, lookOf, nextBy}
@@ -205,9 +206,9 @@ refused-close s n m vs =
 zeros : (o n m : ℕ) (vs : List ℕ) → openOf o n .answer ≡ refused m vs → openOf o n .state ≡ newState 0 0
 unfolding openOf
 zeros o n m vs =
-    pick-case (λ (x : Told Done). x .answer ≡ refused m vs → x .state ≡ newState 0 0) (ltb n _) _ _ (λ _ _. refl)
-    λ _. pick-case (λ (x : Told Done). x .answer ≡ refused m vs → x .state ≡ newState 0 0) (ltb _ n) _ _ (λ _ _. refl)
-    λ _ e. let z : _≡_ {A = ℕ} 0 1 = cc in absurd (omega arith)
+    pick-case (λ (x : Told Done). x .answer ≡ refused m vs → x .state ≡ newState 0 0) (isBuffer n) _ _
+    (λ _ e. let z : _≡_ {A = ℕ} 0 1 = cc in absurd (omega arith))
+    (λ _ _. refl)
 
 -- it fits no buffer
 zeros-fit-nothing : (n : ℕ) → fits (newState 0 0) n ≡ false

@@ -13,7 +13,8 @@ use Rattle.blocks.specs.Readings.{binary}
 use Rattle.blocks.proofs.Laws.{binary-grows}
 use Rattle.reader.specs.declared.State.{State}
 use Rattle.reader.specs.declared.Mark.{Mark}
-use Rattle.reader.specs.Fits.{mostOffset, fits}
+use Rattle.places.specs.Places.{mostOffset}
+use Rattle.reader.specs.Fits.{fits}
 use Rattle.reader.specs.Meaning.{done, handed, ended, looked}
 use Rattle.reader.specs.Calls.{openOf, bufferedOf, nextOf}
 use Rattle.history.specs.Facts.{Slotted, unpassed, progressOf, Progress, HandedOut}

@@ -5,10 +5,10 @@ use mathlib.Core.Bool.{Bool, true, false, _&&_}
 use mathlib.Core.List.{List, []}
 use Prim.Native.Nat.{ℕ, _+_, _-_, _≤_}
 use native.Mathlib.Omega.{arith}
-use lib.Dec.{eqb, ltb, leb}
+use lib.Dec.{eqb, leb}
 use lib.ListN.{length}
 use lib.Seq.{slice, length-slice}
-use borrow.Author.Tests.{eqb-true, leb-true, ltb-false}
+use borrow.Author.Tests.{eqb-true, leb-true}
 use Rattle.refusal.specs.Numbers.{strangeState}
 use Rattle.refusal.specs.Paper.{Paper, gives, more, refused}
 use Rattle.kept.specs.declared.Blocks.{Blocks}
@@ -16,13 +16,15 @@ use Rattle.kept.specs.Kept.{kindsKnown, depthWithin, depthWithinPassed, dueFits
 use Rattle.blocks.specs.Readings.{Reached, Reader, Grows}
 use Rattle.kept.proofs.Stack.{by-due}
 use Rattle.reader.specs.declared.State.{State}
-use Rattle.reader.specs.Fits.{leastBuffer, mostBuffer, mostOffset, heldOf, fits, Fitting}
+use Rattle.places.specs.Places.{mostOffset, isBuffer}
+use Rattle.places.proofs.Tests.{both, range}
+use Rattle.reader.specs.Fits.{heldOf, fits, Fitting}
 use Rattle.reader.specs.Meaning.{Done, done, Told, told, Looked}
 use Rattle.reader.specs.Calls.{openOf, bufferedOf, offerOf, bufferOf, shutState, closeOf, stateAt, skippedOf, readOf, waitOf, handOut, lookOf, nextBy}
 use Rattle.buffer.specs.Buffer.{separators}
 use Rattle.blocks.proofs.Firsts.{pick-case}
 use Rattle.buffer.proofs.Buffer.{seps-le}
-use Rattle.reader.proofs.Shell.{both, fitting, within, next-looks}
+use Rattle.reader.proofs.Shell.{fitting, within, next-looks}
 use Rattle.reader.proofs.Refusing.{by-blocks}
 use Rattle.history.specs.Facts.{Slotted}
 use Rattle.history.proofs.Blocks.{Sound, sound-none}
@@ -161,12 +163,12 @@ Opens n x = x .answer ≡ gives done → Kept (x .state) n
 pub open-kept : (o n : ℕ) → o ≤ mostOffset → openOf o n .answer ≡ gives done → Kept (openOf o n .state) n
 unfolding openOf
 open-kept o n h =
-    pick-case (Opens n) (ltb n leastBuffer) _ _ (λ _ e. let z : _≡_ {A = ℕ} 0 1 = cc in absurd (omega arith))
-    λ a. pick-case (Opens n) (ltb mostBuffer n) _ _ (λ _ e. let z : _≡_ {A = ℕ} 0 1 = cc in absurd (omega arith))
-    λ b e. let low = ltb-false _ _ a in let high = ltb-false _ _ b in record {
-      fit = record { len = refl; low = low; high = high; order = omega arith; passed = omega arith; within = omega arith; sum = omega arith; depth = sound-none 0 .top };
+    pick-case (Opens n) (isBuffer n) _ _
+    (λ a e. let r = range n a in record {
+      fit = record { len = refl; low = r .0; high = r .1; order = omega arith; passed = omega arith; within = omega arith; sum = omega arith; depth = sound-none 0 .top };
       sound = sound-none (0 - 0);
-    }
+    })
+    (λ _ e. let z : _≡_ {A = ℕ} 0 1 = cc in absurd (omega arith))
 
 pub open-fits : (o n : ℕ) → o ≤ mostOffset → openOf o n .answer ≡ gives done → (fits (openOf o n .state) n ≡ true) × Slotted (openOf o n .state .blocks)
 open-fits o n h e = let K = open-kept o n h e in (kept-fits K, K .sound .slots)

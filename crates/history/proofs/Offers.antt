@@ -4,14 +4,14 @@ use mathlib.Core.Bool.{Bool, true, false}
 use mathlib.Core.List.{List, [], _++_, append-nil}
 use Prim.Native.Nat.{ℕ, _+_, _-_, _≤_}
 use native.Mathlib.Omega.{arith}
-use lib.Dec.{ltb}
 use lib.ListN.{length, take, drop, length-append, length-drop}
 use lib.Seq.{length-slice, length-take-le, take-at}
-use borrow.Author.Tests.{ltb-false}
+use borrow.Author.Tests.{leb-true}
 use Rattle.refusal.specs.Numbers.{afterClosing, offsetTooHigh, strangeState}
 use Rattle.refusal.specs.Paper.{gives, refused}
 use Rattle.reader.specs.declared.State.{State}
-use Rattle.reader.specs.Fits.{mostOffset, heldOf, fits, Fitting}
+use Rattle.places.specs.Places.{mostOffset, offsetFits}
+use Rattle.reader.specs.Fits.{heldOf, fits, Fitting}
 use Rattle.reader.specs.Meaning.{Told, told}
 use Rattle.reader.specs.Calls.{bufferedOf, takenOf, filledBy, offerOf, bufferOf}
 use Rattle.reader.proofs.Shell.{fitting, offer-taken, buffer-taken}
@@ -26,19 +26,19 @@ filledWith s piece l = (bufferedOf s l ++ take (countOf s piece l) piece) ++ dro
 
 -- the answer and the buffer after a piece is offered
 pub data Offering (s : State) (piece l : List ℕ) : Told ℕ → List ℕ → Type 0 where
-  accepted : fits s (length l) ≡ true → s .closed ≡ false → length piece ≤ mostOffset - (s .offset + heldOf s) → Offering s piece l (told (gives (countOf s piece l)) (filledBy s (countOf s piece l))) (filledWith s piece l)
+  accepted : fits s (length l) ≡ true → s .closed ≡ false → s .offset + heldOf s + length piece ≤ mostOffset → Offering s piece l (told (gives (countOf s piece l)) (filledBy s (countOf s piece l))) (filledWith s piece l)
   turned-away : (n : ℕ) → Offering s piece l (told (refused n []) s) l
 
 module _ (s : State) (piece l : List ℕ) where
   pub offering : Offering s piece l (offerOf s (length l) (length piece)) (bufferOf s piece l)
   unfolding offerOf bufferOf
-  offering = by (fits s (length l)) (s .closed) (ltb (mostOffset - (s .offset + heldOf s)) (length piece)) refl refl refl
+  offering = by (fits s (length l)) (s .closed) (offsetFits (s .offset + heldOf s) (length piece)) refl refl refl
     where
-      by : (a b c : Bool) → fits s (length l) ≡ a → s .closed ≡ b → ltb (mostOffset - (s .offset + heldOf s)) (length piece) ≡ c → Offering s piece l (offerOf s (length l) (length piece)) (bufferOf s piece l)
+      by : (a b c : Bool) → fits s (length l) ≡ a → s .closed ≡ b → offsetFits (s .offset + heldOf s) (length piece) ≡ c → Offering s piece l (offerOf s (length l) (length piece)) (bufferOf s piece l)
       by false b c e f g = rw e (turned-away strangeState)
       by true true c e f g = rw (e, f) (turned-away afterClosing)
-      by true false true e f g = rw (e, f, g) (turned-away offsetTooHigh)
-      by true false false e f g = let h : length piece ≤ mostOffset - (s .offset + heldOf s) = ltb-false _ _ g in rw (offer-taken s (length l) (length piece) e f h, buffer-taken s piece l e f h) (accepted e f h)
+      by true false false e f g = rw (e, f, g) (turned-away offsetTooHigh)
+      by true false true e f g = rw (offer-taken s (length l) (length piece) e f g, buffer-taken s piece l e f g) (accepted e f (leb-true _ _ g))
 
   module _ (F : Fitting s (length l)) where
     held : length (bufferedOf s l) ≡ heldOf s

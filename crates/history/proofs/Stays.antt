@@ -9,7 +9,8 @@ use lib.ListN.{length}
 use Rattle.refusal.specs.Paper.{gives}
 use Rattle.blocks.specs.Readings.{Reader, Grows}
 use Rattle.reader.specs.declared.State.{State}
-use Rattle.reader.specs.Fits.{mostOffset, fits}
+use Rattle.places.specs.Places.{mostOffset}
+use Rattle.reader.specs.Fits.{fits}
 use Rattle.reader.specs.Meaning.{done, Told}
 use Rattle.reader.specs.Calls.{openOf}
 use Rattle.buffer.specs.Buffer.{recordOf}

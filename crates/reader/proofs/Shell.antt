@@ -6,27 +6,24 @@ use Prim.Native.Nat.{ℕ, zero, suc, _+_, _-_, _≤_, _<_}
 use native.Mathlib.Omega.{arith}
 use lib.ListN.{length, take, drop}
 use lib.Seq.{slice, length-slice}
-use lib.Dec.{eqb, ltb, leb}
-use borrow.Author.Tests.{eqb-true, leb-true, le-ltb}
+use lib.Dec.{eqb}
+use borrow.Author.Tests.{leb-true}
 use Rattle.refusal.specs.Numbers.{strangeState}
 use Rattle.refusal.specs.Paper.{Paper, gives, refused, pick}
 use Rattle.automaton.specs.Limit.{mostOpen}
+use Rattle.places.specs.Places.{offsetFits}
+use Rattle.places.proofs.Tests.{both, placed}
 use Rattle.kept.specs.declared.Blocks.{Blocks}
 use Rattle.kept.specs.Kept.{kindsKnown, depthWithin, depthWithinPassed, dueFits, blocksFit}
 use Rattle.blocks.specs.Readings.{Reached, Reader, Grows}
 use Rattle.blocks.proofs.Ranged.{Ranged, ranged}
 use Rattle.reader.specs.declared.State.{State}
-use Rattle.reader.specs.Fits.{leastBuffer, mostBuffer, mostOffset, heldOf, fits, lengthsAgree, lengthInRange, placesInOrder, offsetFits, blocksAgree, Fitting}
+use Rattle.reader.specs.Fits.{heldOf, fits, placesAgree, offsetAgrees, blocksAgree, Fitting}
 use Rattle.reader.specs.Meaning.{told, looked}
 use Rattle.reader.specs.Calls.{skippedOf, stateAt, bufferedOf, readOf, takenOf, filledBy, offerOf, bufferOf, lookOf, nextBy, Within}
 use Rattle.buffer.specs.Buffer.{separators}
 use Rattle.blocks.proofs.Firsts.{pick-case}
 use Rattle.buffer.proofs.Buffer.{seps-le}
-
--- two tests that both hold
-pub both : (a b : Bool) → a && b ≡ true → (a ≡ true) × (b ≡ true)
-both true b e = (refl, e)
-both false b e = let z : _≡_ {A = ℕ} 0 1 = cc in absurd (omega arith)
 
 fit-depth : (b : Blocks) (passed : ℕ) → blocksFit b passed ≡ true → b .depth ≤ mostOpen
 unfolding blocksFit
@@ -39,20 +36,16 @@ fit-depth b passed e =
 pub fitting : (s : State) (n : ℕ) → fits s n ≡ true → Fitting s n
 unfolding fits
 fitting s n e =
-    let d = both (lengthsAgree s n && lengthInRange n && placesInOrder s n && offsetFits s) (blocksAgree s) e in
-    let f = both (lengthsAgree s n && lengthInRange n && placesInOrder s n) (offsetFits s) (d .0) in
-    let g = both (lengthsAgree s n && lengthInRange n) (placesInOrder s n) (f .0) in
-    let h = both (lengthsAgree s n) (lengthInRange n) (g .0) in
-    let i = both (leb leastBuffer n) (leb n mostBuffer) (h .1) in
-    let j = both (leb (s .start) (s .place) && leb (s .place) (s .filled)) (leb (s .filled) n) (g .1) in
-    let k = both (leb (s .start) (s .place)) (leb (s .place) (s .filled)) (j .0) in
+    let d = both (placesAgree s n && offsetAgrees s) (blocksAgree s) e in
+    let f = both (placesAgree s n) (offsetAgrees s) (d .0) in
+    let P = placed (s .len) (s .start) (s .place) (s .filled) n (f .0) in
     record {
-      len = eqb-true _ _ (h .0);
-      low = leb-true _ _ (i .0);
-      high = leb-true _ _ (i .1);
-      order = leb-true _ _ (k .0);
-      passed = leb-true _ _ (k .1);
-      within = leb-true _ _ (j .1);
+      len = P .len-is;
+      low = P .low;
+      high = P .high;
+      order = P .order;
+      passed = P .passed;
+      within = P .within;
       sum = leb-true _ _ (f .1);
       depth = fit-depth (s .blocks) (s .place - s .start) (d .1);
     }
@@ -82,14 +75,14 @@ within t G s l F =
 
 -- a piece that is not refused
 module _ (s : State) where
-  pub offer-taken : (n m : ℕ) → fits s n ≡ true → s .closed ≡ false → m ≤ mostOffset - (s .offset + heldOf s) → offerOf s n m ≡ told (gives (takenOf s n m)) (filledBy s (takenOf s n m))
+  pub offer-taken : (n m : ℕ) → fits s n ≡ true → s .closed ≡ false → offsetFits (s .offset + heldOf s) m ≡ true → offerOf s n m ≡ told (gives (takenOf s n m)) (filledBy s (takenOf s n m))
   unfolding offerOf
-  offer-taken n m t f h = simp (t, f, le-ltb _ _ h)
+  offer-taken n m t f h = simp (t, f, h)
 
-  pub buffer-taken : (piece l : List ℕ) → fits s (length l) ≡ true → s .closed ≡ false → length piece ≤ mostOffset - (s .offset + heldOf s)
+  pub buffer-taken : (piece l : List ℕ) → fits s (length l) ≡ true → s .closed ≡ false → offsetFits (s .offset + heldOf s) (length piece) ≡ true
       → bufferOf s piece l ≡ (bufferedOf s l ++ take (takenOf s (length l) (length piece)) piece) ++ drop (heldOf s + takenOf s (length l) (length piece)) l
   unfolding bufferOf
-  buffer-taken piece l t f h = simp (t, f, le-ltb _ _ h)
+  buffer-taken piece l t f h = simp (t, f, h)
 
 -- next, by 28's test
 module _ (t : Reader) (s : State) (l : List ℕ) where

@@ -5,17 +5,18 @@ use mathlib.Core.Bool.{Bool, true, false}
 use mathlib.Core.List.{List, [], _∷_, _++_}
 use lib.ListN.{length, getD, take, drop}
 use lib.Seq.{slice}
-use lib.Dec.{eqb, ltb, leb}
+use lib.Dec.{eqb, leb}
 use Rattle.refusal.specs.Numbers.{malformedRecord, cutShort, recordTooLong, bufferLength, afterClosing, offsetTooHigh, strangeState}
 use Rattle.refusal.specs.Paper.{Paper, gives, more, refused, pick}
 use Rattle.buffer.specs.Buffer.{separators}
+use Rattle.places.specs.Places.{isBuffer, offsetFits}
 use Rattle.kept.specs.declared.Blocks.{Blocks}
 use Rattle.kept.specs.Kept.{noBlocks}
 use Rattle.blocks.specs.Readings.{Reached, Reader, readBy, binary}
 use Rattle.reader.specs.declared.State.{State}
 use Rattle.reader.specs.declared.Mark.{Mark}
 use Rattle.reader.specs.declared.Mark.the-variants.{Row, Control}
-use Rattle.reader.specs.Fits.{leastBuffer, mostBuffer, mostOffset, heldOf, fits}
+use Rattle.reader.specs.Fits.{heldOf, fits}
 use Rattle.reader.specs.Meaning.{Done, done, Handed, handed, ended, Told, told, Looked, looked}
 
 -- ---- opening
@@ -26,10 +27,7 @@ newState n o = record { len = n; offset = o; start = 0; place = 0; filled = 0; c
 
 -- opening takes a start offset and a buffer of N bytes, 64 to 65,536; a refused opening gives a state of zeros
 unfoldable pub openOf : ℕ → ℕ → Told Done
-openOf o n =
-    pick (ltb n leastBuffer) (told (refused bufferLength []) (newState 0 0))
-    (pick (ltb mostBuffer n) (told (refused bufferLength []) (newState 0 0))
-    (told (gives done) (newState n o)))
+openOf o n = pick (isBuffer n) (told (gives done) (newState n o)) (told (refused bufferLength []) (newState 0 0))
 
 -- ---- taking a piece
 
@@ -50,8 +48,9 @@ unfoldable pub offerOf : State → ℕ → ℕ → Told ℕ
 offerOf s n m =
     pick (fits s n)
     (pick (s .closed) (told (refused afterClosing []) s)
-    (pick (ltb (mostOffset - (s .offset + heldOf s)) m) (told (refused offsetTooHigh []) s)
-    (told (gives (takenOf s n m)) (filledBy s (takenOf s n m)))))
+    (pick (offsetFits (s .offset + heldOf s) m)
+    (told (gives (takenOf s n m)) (filledBy s (takenOf s n m)))
+    (told (refused offsetTooHigh []) s)))
     (told (refused strangeState []) s)
 
 -- the buffer after a piece is offered: the bytes buffered, the bytes taken, and the rest as it was; a refused piece writes nothing
@@ -59,8 +58,9 @@ unfoldable pub bufferOf : State → List ℕ → List ℕ → List ℕ
 bufferOf s piece l =
     pick (fits s (length l))
     (pick (s .closed) l
-    (pick (ltb (mostOffset - (s .offset + heldOf s)) (length piece)) l
-    ((bufferedOf s l ++ take (takenOf s (length l) (length piece)) piece) ++ drop (heldOf s + takenOf s (length l) (length piece)) l)))
+    (pick (offsetFits (s .offset + heldOf s) (length piece))
+    ((bufferedOf s l ++ take (takenOf s (length l) (length piece)) piece) ++ drop (heldOf s + takenOf s (length l) (length piece)) l)
+    l))
     l
 
 -- ---- closing

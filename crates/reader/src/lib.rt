@@ -1,10 +1,11 @@
 // The stream reader: successive records from a lent buffer that is filled piece by piece. What a call answers is decided by
-// specs/Calls.antt, which reads as document 01's "The stream"; 28's tests stand in specs/Fits.antt. The state goes by value.
+// specs/Calls.antt, which reads as document 01's "The stream"; 28's tests stand in specs/Fits.antt, those of numbers alone in crate
+// `places` and those of the open blocks in crate `kept`. The state goes by value.
 ghost use mathlib.Core.Path.{_≡_};
 ghost use Prim.Native.Nat.{_≤_};
 ghost use lib.ListN.{length};
 ghost use Rattle.blocks.specs.Readings.{runMeaning};
-ghost use Rattle.reader.specs.Fits.{fits, placesFit, Fitting};
+ghost use Rattle.reader.specs.Fits.{fits, Fitting};
 ghost use Rattle.reader.specs.Meaning.{openedMeaning, offeredMeaning, closedMeaning, nextMeaning};
 ghost use Rattle.reader.specs.Calls.{newState, openOf, offerOf, bufferOf, closeOf, skippedOf, markOf, waitOf, handOut, nextOf, Within};
 use blocks::Run;
@@ -14,14 +15,6 @@ use refusal::Refusal;
 
 // The bytes of a record that was handed out.
 pub use buffer::record;
-
-// The lengths that a buffer may have.
-pub const LEAST_BUFFER: usize = 64;
-
-pub const MOST_BUFFER: usize = 65536;
-
-// The largest stream offset.
-const MOST_OFFSET: u64 = 18446744073709551615;
 
 // Where a stream stands between calls. `offset` is the stream offset of the byte at `start`, the first that is neither handed out
 // nor skipped; `place` is the end of the last token passed, and `filled` that of the bytes taken.
@@ -122,31 +115,6 @@ pub struct Next {
     pub state: State,
 }
 
-// Whether these lengths and places belong to a buffer of `n` bytes.
-fn places_fit(len: usize, start: usize, place: usize, filled: usize, n: usize) -> bool
-    ensures { λ r. ⌜ r ≡ placesFit len start place filled n ⌝ }
-{
-    if len != n {
-        return false;
-    }
-    if n < LEAST_BUFFER {
-        return false;
-    }
-    if MOST_BUFFER < n {
-        return false;
-    }
-    if place < start {
-        return false;
-    }
-    if filled < place {
-        return false;
-    }
-    if n < filled {
-        return false;
-    }
-    true
-}
-
 // Whether a state belongs to a buffer of `n` bytes.
 fn fits_together(s: State, n: usize) -> bool
     ensures { λ r. ⌜ r ≡ fits s n ⌝ }
@@ -156,10 +124,10 @@ fn fits_together(s: State, n: usize) -> bool
     let filled = s.filled;
     let offset = s.offset;
     let kept = s.blocks;
-    if !places_fit(s.len, start, place, filled, n) {
+    if !places::places_fit(s.len, start, place, filled, n) {
         return false;
     }
-    if MOST_OFFSET - offset < (filled - start) as u64 {
+    if !places::offset_fits(offset, (filled - start) as u64) {
         return false;
     }
     kept::blocks_fit(kept, place - start)
@@ -186,13 +154,7 @@ pub fn open(start: u64, buf: &[u8]) -> Opened
     ensures { λ r. ⌜ openedMeaning r ≡ openOf start (length (now (buf .entry))) ⌝ }
 {
     let n = buf.len();
-    if n < LEAST_BUFFER {
-        return Opened {
-            answer: Opening::BufferLength,
-            state: new_state(0, 0),
-        };
-    }
-    if MOST_BUFFER < n {
+    if !places::is_buffer(n) {
         return Opened {
             answer: Opening::BufferLength,
             state: new_state(0, 0),
@@ -359,7 +321,7 @@ impl State {
         let filled = self.filled;
         let offset = self.offset;
         let held = filled - start;
-        if MOST_OFFSET - (offset + held as u64) < m as u64 {
+        if !places::offset_fits(offset + held as u64, m as u64) {
             return Offered {
                 answer: Taking::OffsetTooHigh,
                 state: self,

@@ -8,12 +8,14 @@ use native.Mathlib.Omega.{arith}
 use lib.Dec.{eqb, leb}
 use lib.ListN.{length, take, drop, length-append, length-drop, take-append-drop}
 use lib.Seq.{length-take-le, take-at, drop-length}
-use borrow.Author.Tests.{eqb-true, eqb-false, le-ltb, leb-true, leb-false}
+use borrow.Author.Tests.{eqb-true, eqb-false, le-leb, leb-true, leb-false}
 use Rattle.refusal.specs.Paper.{pick}
 use Rattle.blocks.specs.Readings.{Reader}
 use Rattle.kept.specs.Kept.{noBlocks}
 use Rattle.reader.specs.declared.State.{State}
-use Rattle.reader.specs.Fits.{leastBuffer, mostBuffer, mostOffset, heldOf, fits}
+use Rattle.places.specs.Places.{leastBuffer, mostBuffer, mostOffset, offsetFits}
+use Rattle.places.proofs.Tests.{in-range}
+use Rattle.reader.specs.Fits.{heldOf, fits}
 use Rattle.reader.specs.Meaning.{Told}
 use Rattle.reader.specs.Calls.{takenOf, filledBy, newState, shutState, bufferedOf, openOf, closeOf}
 use Rattle.reader.proofs.Shell.{offer-taken, buffer-taken}
@@ -153,7 +155,7 @@ module _ (t : Reader) (T : TokenReader t) {X : Type 0} {n : ℕ} (M : Telling n 
   says (suc f) false s l (p ∷ ps) I o shut wait h =
       let k = takenOf s (length l) (length p) in
       let fit = inv-fits n s l I in
-      let o′ : length p ≤ mostOffset - (s .offset + heldOf s) = omega (arith, ap length (joined-cons p ps), length-append p (joined ps)) in
+      let o′ : offsetFits (s .offset + heldOf s) (length p) ≡ true = le-leb (s .offset + heldOf s + length p) mostOffset (omega (arith, ap length (joined-cons p ps), length-append p (joined ps))) in
       let after : (x : Told ℕ) (b : List ℕ) → Trace = λ x b. afterOffer (x .answer) (λ k. driveBy t f true (x .state) b (pick (eqb k (length p)) ps (drop k p ∷ ps))) in
       subst (λ (x : Trace). M .Says x (meaning t M s l (joined (p ∷ ps))))
       (sym ((λ i. after (offer-taken s (length l) (length p) fit (wait refl .1) o′ i) (buffer-taken s p l fit (wait refl .1) o′ i))))
@@ -166,6 +168,6 @@ module _ (t : Reader) (T : TokenReader t) (ps : List (List ℕ)) (l : List ℕ) 
   pub opened-says : {X : Type 0} (M : Telling (length l) X) → M .Says (driveBy t f false (openOf o (length l) .state) l ps) (wholeIn t M (joined ps) o)
   unfolding openOf
   opened-says M =
-      rw (le-ltb _ _ low, le-ltb _ _ high)
+      rw (in-range (length l) low high)
       (subst (M .Says (driveBy t f false (newState (length l) o) l ps)) (means-none t T M noBlocks 0 o (joined ps) refl)
       (says t T M f false (newState (length l) o) l ps (new-inv o l low high (omega arith)) (omega arith) (λ e. not-true e) (λ _. (omega arith, refl)) (omega arith)))

@@ -10,7 +10,7 @@ use borrow.Author.Tests.{le-leb, lt-leb}
 use Rattle.refusal.specs.Paper.{Paper, gives, more, pick}
 use Rattle.kept.specs.Kept.{noBlocks}
 use Rattle.blocks.specs.Readings.{Reader, readBy, binary}
-use Rattle.reader.specs.Fits.{leastBuffer, mostBuffer, mostOffset}
+use Rattle.places.specs.Places.{leastBuffer, mostBuffer, mostOffset}
 use Rattle.reader.specs.Meaning.{Handed, ended}
 use Rattle.reader.specs.Calls.{openOf, markOf}
 use Rattle.stream.specs.Interface.{TokenReader}

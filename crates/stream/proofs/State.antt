@@ -10,7 +10,8 @@ use lib.Seq.{length-slice, drop-drop}
 use borrow.Author.Tests.{eqb-true, eqb-false}
 use Rattle.kept.specs.Kept.{noBlocks}
 use Rattle.reader.specs.declared.State.{State}
-use Rattle.reader.specs.Fits.{leastBuffer, mostBuffer, mostOffset, heldOf, fits, Fitting}
+use Rattle.places.specs.Places.{leastBuffer, mostBuffer, mostOffset}
+use Rattle.reader.specs.Fits.{heldOf, fits, Fitting}
 use Rattle.reader.specs.Calls.{skippedOf, stateAt, bufferedOf, newState, shutState}
 use Rattle.buffer.specs.Buffer.{separators}
 use Rattle.blocks.proofs.Firsts.{pick-case}

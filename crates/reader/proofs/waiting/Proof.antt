@@ -15,13 +15,15 @@ returns c =
     simp (le-leb (s .len) (s .filled - s .start) (c .if1 .taken)) refl
 
 returns-2 : tie.Need-returns-2
-returns-2 c = simp (lt-leb _ _ (c .before .before .if1 .left), c .before .if2 .taken, eq-eqb _ _ (c .if3 .taken))
+returns-2 c =
+    let s = c .before .before .before .before .args .state in
+    simp (lt-leb _ _ (c .before .before .if1 .left), c .before .if2 .taken, eq-eqb (s .filled - s .start) 0 (c .if3 .taken)) refl
 
 returns-3 : tie.Need-returns-3
-returns-3 c = simp (lt-leb _ _ (c .before .before .if1 .left), c .before .if2 .taken, ne-eqb _ _ (c .if3 .left))
+returns-3 c = simp (lt-leb _ _ (c .before .before .if1 .left), c .before .if2 .taken, ne-eqb _ _ (c .if3 .left)) refl
 
 returns-4 : tie.Need-returns-4
-returns-4 c = simp (lt-leb _ _ (c .before .if1 .left), c .if2 .left)
+returns-4 c = simp (lt-leb _ _ (c .before .if1 .left), c .if2 .left) refl
 
 pub waiting-spec : {M : Type 1} → statement M
 waiting-spec = tie.close (tie.spec sub-held returns returns-2 returns-3 returns-4)

@@ -12,7 +12,7 @@ fits-together-requires c κs = search needs
 
 returns : tie.Need-returns
 unfolding closeOf
-returns c = simp (sym (c .before .fits-together .ensures) ∙ not-true _ (c .if1 .taken))
+returns c = simp (sym (c .before .fits-together .ensures) ∙ not-true _ (c .if1 .taken)) refl
 
 returns-2 : tie.Need-returns-2
 unfolding closeOf

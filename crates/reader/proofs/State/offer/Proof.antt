@@ -4,7 +4,7 @@ use Prim.Native.Nat.{_-_, min}
 use native.Mathlib.Nat.{min-le-right}
 use native.Mathlib.Omega.{arith}
 use lib.ListN.{length}
-use borrow.Author.Tests.{lt-ltb, not-true, not-false}
+use borrow.Author.Tests.{not-true, not-false}
 use borrow.Author.Needs.{needs}
 use Rattle.buffer.specs.Buffer.{takenBehind}
 use Rattle.buffer.proofs.Buffer.{taken-is, refilled-is}
@@ -31,26 +31,31 @@ returns-2 c = (simp (sym (c .before .before .fits-together .ensures) ∙ not-fal
 sub-held : tie.Need-sub-held
 sub-held c = ordered (fits-at (c .before))
 
-add-if3 : tie.Need-add-if3
-add-if3 c = let F = fits-at (c .before) in omega (arith, F .sum)
+add-offset-fits : tie.Need-add-offset-fits
+add-offset-fits c = let F = fits-at (c .before) in omega (arith, F .sum)
 
-sub-if3 : tie.Need-sub-if3
-sub-if3 c = fits-at (c .before) .sum
+offset-fits-requires : tie.Need-offset-fits-requires
+offset-fits-requires c κs = search needs
 
 returns-3 : tie.Need-returns-3
 unfolding offerOf bufferOf
-returns-3 c = (simp (sym (c .before .before .before .fits-together .ensures) ∙ not-false _ (c .before .before .if1 .left), c .before .if2 .left, lt-ltb _ _ (c .if3 .taken)) refl, simp (sym (c .before .before .before .fits-together .ensures) ∙ not-false _ (c .before .before .if1 .left), c .before .if2 .left, lt-ltb _ _ (c .if3 .taken)) refl)
+returns-3 c =
+    let w = c .before .before in
+    let t = sym (w .before .before .fits-together .ensures) ∙ not-false _ (w .before .if1 .left) in
+    let o = sym (c .before .offset-fits .ensures) ∙ not-true _ (c .if3 .taken) in
+    (simp (t, w .if2 .left, o) refl, simp (t, w .if2 .left, o) refl)
 
 refill-requires : tie.Need-refill-requires
 refill-requires c κs = search needs
 
 sub-next : tie.Need-sub-next
-sub-next c = fits-at (c .before .before .before .before .before .before) .order
+sub-next c = fits-at (c .before .before .before .before .before .before .before) .order
 
 add-next : tie.Need-add-next
 add-next c =
-    let a = c .before .before .before .before .before .before .before .before .before .before .args in
-    let F = fits-at (c .before .before .before .before .before .before) in
+    let w = c .before .before .before .before .before .before .before in
+    let a = w .before .before .before .before .args in
+    let F = fits-at w in
     let e : _ ≡ takenBehind (a .self .start) (a .self .filled) (length (a .buf .now)) (length (a .piece .now)) = c .before .before .refill .ensures .0 in
     let k : _ ≡ min (length (a .piece .now)) (length (a .buf .now) - heldOf (a .self)) = e ∙ taken-is (a .self .start) (a .self .filled) (length (a .buf .now)) (ordered F) (F .within) (length (a .piece .now)) in
     omega (arith, k, min-le-right (length (a .piece .now)) (length (a .buf .now) - heldOf (a .self)), F .within, F .len, F .high)
@@ -61,14 +66,15 @@ same-length c = search needs
 returns-4 : tie.Need-returns-4
 returns-4 c =
     let w = c .before .before .before .before in
-    let a = w .before .before .before .before .before .before .args in
-    let F = fits-at (w .before .before) in
-    let t = sym (w .before .before .before .fits-together .ensures) ∙ not-false _ (w .before .before .if1 .left) in
+    let a = w .before .before .before .before .before .before .before .args in
+    let F = fits-at (w .before .before .before) in
+    let t = sym (w .before .before .before .before .fits-together .ensures) ∙ not-false _ (w .before .before .before .if1 .left) in
+    let o = sym (w .before .offset-fits .ensures) ∙ not-false _ (w .if3 .left) in
     let e : _ ≡ takenBehind (a .self .start) (a .self .filled) (length (a .buf .now)) (length (a .piece .now)) = c .before .before .refill .ensures .0 in
     let k : _ ≡ min (length (a .piece .now)) (length (a .buf .now) - heldOf (a .self)) = e ∙ taken-is (a .self .start) (a .self .filled) (length (a .buf .now)) (ordered F) (F .within) (length (a .piece .now)) in (
-      rw k (sym (offer-taken (a .self) (length (a .buf .now)) (length (a .piece .now)) t (w .before .if2 .left) (w .if3 .left))),
+      rw k (sym (offer-taken (a .self) (length (a .buf .now)) (length (a .piece .now)) t (w .before .before .if2 .left) o)),
       c .before .before .refill .ensures .1 ∙ refilled-is (a .self .start) (a .self .filled) (a .piece .now) (a .buf .now) (ordered F) (F .within)
-          ∙ sym (buffer-taken (a .self) (a .piece .now) (a .buf .now) t (w .before .if2 .left) (w .if3 .left)),
+          ∙ sym (buffer-taken (a .self) (a .piece .now) (a .buf .now) t (w .before .before .if2 .left) o),
     )
 
 pub offer-spec : {M : Type 1} → statement M
@@ -79,8 +85,8 @@ offer-spec =
     returns
     returns-2
     sub-held
-    add-if3
-    sub-if3
+    add-offset-fits
+    offset-fits-requires
     returns-3
     refill-requires
     sub-next

@@ -1,0 +1,2 @@
+-- The lengths, places and offsets of a stream.
+pub mod Places
