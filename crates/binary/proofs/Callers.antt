@@ -1,17 +1,16 @@
 -- What a caller may rely on: a token starts at its place, ends behind it and within the bytes; a refusal carries the place; and unless
 -- the answer is "more", bytes behind change nothing. Assumes nothing.
-use mathlib.Core.Path.{_≡_, refl, sym, ap, ap₂, _∙_}
+use mathlib.Core.Path.{_≡_, refl, sym, ap, _∙_}
 use mathlib.Core.Logic.{⊎-elim}
 use mathlib.Core.Bool.{Bool, true, false}
-use mathlib.Core.List.{List, [], _∷_, _++_}
-use Prim.Native.Nat.{ℕ, zero, suc, _+_, _-_, _≤_, _<_}
+use mathlib.Core.List.{List, _++_}
+use Prim.Native.Nat.{ℕ, suc, _+_, _-_, _≤_, _<_}
 use native.Mathlib.Omega.{arith}
 use lib.Dec.{eqb, ltb, lit≤}
 use lib.ListN.{length, getD, length-append, List·getD-append}
 use lib.IntN.{ℤ, pos, negsuc}
 use lib.Ieee.{binary64, ofBits}
 use borrow.Author.Tests.{lt-ltb, le-ltb, ltb-false}
-use Rattle.refusal.specs.Numbers.{badByte, negativeLength, longVarint, wideVarint}
 use Rattle.refusal.specs.Paper.{Paper, gives, more, refused, Got, got, Spot, spot, pick}
 use Rattle.refusal.proofs.Cases.{either}
 use Rattle.varint.specs.Varint.{uvarintAt}
@@ -21,9 +20,7 @@ use Rattle.varint.proofs.Round.{within, refused-number}
 use Rattle.varint.proofs.Extend.{settled-at}
 use Rattle.token.specs.declared.Token.{Token}
 use Rattle.token.specs.declared.Token.the-variants.{String, Int64, Uint64, Double, Boolean}
-use Rattle.token.specs.declared.Mark.{Mark}
-use Rattle.token.specs.declared.Mark.the-variants.{Is, Not}
-use Rattle.token.specs.Marks.{markOf, ofMark}
+use Rattle.token.specs.Marks.{markOf}
 use Rattle.word.proofs.Bytes.{word-same}
 use Rattle.token.proofs.Sound.{Sound, pick-sound, one-sound, mark-sound}
 use Rattle.binary.specs.Little.{little8}

@@ -1,22 +1,20 @@
 -- Laws of `binaryFrom`: which answer follows from what was read, and what a caller may rely on. Assumes nothing.
-use mathlib.Core.Path.{_≡_, refl, sym, ap, _∙_}
+use mathlib.Core.Path.{_≡_, ap, _∙_}
 use mathlib.Core.List.{List, [], _∷_}
-use Prim.Native.Nat.{ℕ, zero, suc, _+_, _-_, _/_, _%_, _≤_, _<_}
+use Prim.Native.Nat.{ℕ, _+_, _-_, _/_, _%_, _≤_, _<_}
 use native.Mathlib.Omega.{arith}
 use lib.ListN.{length, getD}
-use lib.IntN.{ℤ, pos, negsuc}
-use borrow.Author.Tests.{lt-ltb, le-ltb, eq-eqb, ne-eqb}
+use borrow.Author.Tests.{lt-ltb, le-ltb, ne-eqb}
 use Rattle.refusal.specs.Numbers.{negativeLength, beyondSlice}
-use Rattle.refusal.specs.Paper.{Paper, gives, more, refused, Got, got, Spot, spot}
+use Rattle.refusal.specs.Paper.{Paper, gives, more, refused, Got, got, spot}
 use Rattle.varint.specs.Varint.{uvarintAt}
 use Rattle.zigzag.specs.Zigzag.{signed}
 use Rattle.varint.specs.Signed.{signedAnswer, varintAt}
 use Rattle.zigzag.proofs.Laws.{even, odd}
 use Rattle.varint.proofs.Round.{never-beyond}
-use Rattle.token.specs.declared.Token.{Token}
-use Rattle.token.specs.declared.Token.the-variants.{String, Int64}
+use Rattle.token.specs.declared.Token.the-variants.{String}
 use Rattle.token.specs.Marks.{markOf, ofMark}
-use Rattle.binary.specs.Binary.{ofSize, ofLength, ofVarint, doubleAt, marked, binaryFrom, binaryAt}
+use Rattle.binary.specs.Binary.{ofSize, ofLength, doubleAt, marked, binaryFrom, binaryAt}
 
 -- ---- from the code's tests to the definition
 

@@ -1,7 +1,7 @@
 -- Binary tokens: markers 01 string (zigzag length, then bytes), 02 int64, 03 double, 04 false, 05 true, 06 uint64, and
 -- `# < > [ ] { } = ;`. Every refusal of a token but 26 carries the place of the token's first byte.
 use Prim.Native.Nat.{ℕ, _+_, _-_}
-use mathlib.Core.Bool.{Bool, true, false}
+use mathlib.Core.Bool.{true, false}
 use mathlib.Core.List.{List, [], _∷_}
 use lib.ListN.{length, getD}
 use lib.Dec.{ltb, eqb}
@@ -10,7 +10,6 @@ use lib.Ieee.{binary64, ofBits}
 use Rattle.refusal.specs.Numbers.{negativeLength, beyondSlice}
 use Rattle.refusal.specs.Paper.{Paper, gives, more, refused, Got, got, Spot, spot, pick}
 use Rattle.varint.specs.Varint.{uvarintAt}
-use Rattle.zigzag.specs.Zigzag.{signed}
 use Rattle.varint.specs.Signed.{varintAt}
 use Rattle.token.specs.declared.Token.{Token}
 use Rattle.token.specs.declared.Token.the-variants.{String, Int64, Uint64, Double, Boolean}

@@ -11,11 +11,11 @@ use Rattle.varint.specs.Varint.{uvarintAt, uvarintEnd}
 use Rattle.varint.specs.Signed.{varintAt}
 use Rattle.varint.proofs.Read.{one-byte}
 use Rattle.token.specs.Meaning.{kindsOf}
-use Rattle.token.specs.Ends.{endOf, stringEnd, scalarEnd}
+use Rattle.token.specs.Ends.{endOf, scalarEnd}
 use Rattle.word.specs.Word.{wordAt}
 use Rattle.binary.specs.Binary.{ofLength, doubleAt, marked}
 use Rattle.binary_ends.proofs.Words.{word-end}
-use Rattle.binary_ends.proofs.Ends.{whole-end, by-length, length-string, string-is, int64-is, uint64-is, double-is}
+use Rattle.binary_ends.proofs.Ends.{whole-end, by-length, string-is, int64-is, uint64-is, double-is}
 
 -- the mark of an eighth byte
 eighth : trailingZeros 64 0x8000000000000000 / 8 ≡ 7

@@ -1,6 +1,6 @@
 -- What text ignores between tokens. Each of three functions counts the bytes ignored at the front of a list: between tokens, in a
 -- `//` comment, in a `/*` comment.
-use mathlib.Core.Bool.{Bool, true, false}
+use mathlib.Core.Bool.{Bool, true}
 use Prim.Native.Nat.{ℕ, suc, _+_}
 use mathlib.Core.List.{List, [], _∷_}
 use lib.Dec.{eqb}

@@ -18,7 +18,6 @@ use Rattle.token.specs.declared.Token.the-variants as token
 use Rattle.token.specs.declared.Kind.{Kind}
 use Rattle.token.specs.declared.Kind.the-variants.{Text, Scalar}
 use Rattle.token.specs.declared.Mark.{Mark}
-use Rattle.token.specs.declared.Mark.the-variants.{Is, Not}
 use Rattle.token.specs.Meaning.{kindOf, kindsOf}
 use Rattle.token.specs.Marks.{markOf, ofMark}
 use Rattle.token.specs.Ends.{endOf}

@@ -1,16 +1,14 @@
 -- The readings, one at a time, with no count of steps in sight. Assumes nothing.
 use mathlib.Core.Path.{_≡_, refl, sym, ap, _∙_}
-use mathlib.Core.Bool.{Bool, true, false}
 use mathlib.Core.Logic.{⊎-elim}
 use mathlib.Core.List.{List, [], _∷_}
 use Prim.Native.Nat.{ℕ, zero, suc, _+_, _-_, _≤_, _<_}
 use native.Mathlib.Omega.{arith}
-use lib.Dec.{ltb}
 use lib.ListN.{length, getD}
 use borrow.Author.Tests.{lt-ltb, le-ltb}
 use types.Run.{OneOf, miss}
 use denote.Enum.Declared.{tagOf}
-use Rattle.refusal.specs.Paper.{Paper, gives, more, refused, Spot, spot, pick}
+use Rattle.refusal.specs.Paper.{Paper, gives, more, refused, Spot, spot}
 use Rattle.refusal.specs.declared.Format.the-variants.{Binary}
 use Rattle.refusal.proofs.Cases.{either}
 use Rattle.token.specs.declared.Kind.{Kind}
@@ -32,7 +30,7 @@ use Rattle.blocks.specs.declared.Move.the-variants.{OpenList, OpenMap, O
 use Rattle.kept.specs.Kept.{around, dueOf, blocksOf, blocksThen, noBlocks, openIn, byteOf}
 use Rattle.kept.proofs.Stack.{blocks, then-open, then-close, then-keep}
 use Rattle.blocks.specs.Moves.{kindBy, wrongBy, stepOf, Apt, Moves}
-use Rattle.blocks.specs.Readings.{Reached, reached, Reader, Grows, Onward, onStep, onToken, readFor, readOn, readFrom, passOf, binary, notWhole}
+use Rattle.blocks.specs.Readings.{reached, Reader, Grows, Onward, onStep, onToken, readFor, readOn, readFrom, passOf, binary, notWhole}
 use Rattle.blocks.specs.Stops.{movedBy, keptBy}
 use Rattle.blocks.specs.declared.Stop.{Stop}
 use Rattle.blocks.specs.declared.Stop.the-variants.{Ended, Unread, Whole}

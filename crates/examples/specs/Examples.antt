@@ -3,7 +3,7 @@ use mathlib.Core.Path.{_≡_}
 use Prim.Native.Nat.{ℕ, _-_, _^_}
 use mathlib.Core.List.{List, [], _∷_, _++_}
 use lib.ListN.{replicate}
-use lib.IntN.{ℤ, pos, negsuc}
+use lib.IntN.{ℤ, negsuc}
 use Rattle.refusal.specs.Numbers.{negativeLength, longVarint, wideVarint, notValue, tooDeep}
 use Rattle.refusal.specs.Paper.{Paper, gives, more, refused, Got, got}
 use Rattle.refusal.specs.declared.Format.{Format}

@@ -1,5 +1,5 @@
 -- What the grammar has, strict or loose, the scan finds.
-use mathlib.Core.Path.{_≡_, refl, sym, ap, _∙_}
+use mathlib.Core.Path.{_≡_, refl, ap, _∙_}
 use Prim.Native.Nat.{ℕ, suc, _<_}
 use mathlib.Core.Bool.{Bool, true, false}
 use mathlib.Core.List.{List, [], _∷_}
@@ -8,7 +8,7 @@ use lib.ListN.{length}
 use Rattle.refusal.specs.Paper.{Paper, gives, spot}
 use Rattle.refusal.specs.declared.Format.{Format}
 use Rattle.token.specs.declared.Kind.{Kind}
-use Rattle.token.specs.declared.Kind.the-variants.{Text, Scalar, OpenList, CloseList, OpenMap, CloseMap, OpenAttributes, CloseAttributes, Equals, Semicolon}
+use Rattle.token.specs.declared.Kind.the-variants.{OpenList, CloseList, OpenMap, CloseMap, OpenAttributes, CloseAttributes}
 use Rattle.lexer.specs.Lexer.{kindAt}
 use Rattle.automaton.specs.Limit.{mostOpen}
 use Rattle.automaton.specs.Step.{Block, list, map, attributes, Due, value, object as object-due, item as item-due, key, equals, Step, go, after, opened, onObject, onValue, onItem, onKey, onEquals, endList, endMap, endAttributes, closed, step}
@@ -17,7 +17,7 @@ use Rattle.scan.specs.Post.{blockOf}
 use Rattle.scan.proofs.Laws.{walk-token}
 use Rattle.automaton.proofs.Opened.{not-deep}
 use Rattle.scan.proofs.Arms.{arrive-after, after-key}
-use Rattle.grammar.specs.Grammar.{Looseness, Slot, Shape, tree, object, items, pairs, Reads, plain, attributed, string, scalar, a-list, a-map, items-end, item, items-part, pairs-end, pair, pairs-part}
+use Rattle.grammar.specs.Grammar.{Looseness, Shape, tree, object, items, pairs, Reads, plain, attributed, string, scalar, a-list, a-map, items-end, item, items-part, pairs-end, pair, pairs-part}
 
 module _ (l : Looseness) (f : Format) (s : List ℕ) where
   -- the run behind a value that ends at q in K

@@ -1,5 +1,5 @@
 -- What the scan finds, the grammar has.
-use mathlib.Core.Path.{_≡_, refl, sym, ap, subst, _∙_}
+use mathlib.Core.Path.{_≡_, refl, sym, subst, _∙_}
 use Prim.Native.Nat.{ℕ, zero, suc, _+_, _<_}
 use mathlib.Core.Bool.{Bool, true, false}
 use mathlib.Core.List.{List, [], _∷_}
@@ -14,7 +14,7 @@ use Rattle.token.specs.declared.Kind.the-variants.{Text, Scalar, OpenList, Clos
 use Rattle.lexer.specs.Lexer.{kindAt}
 use Rattle.lexer.proofs.Laws.{ends}
 use Rattle.automaton.specs.Limit.{mostOpen}
-use Rattle.automaton.specs.Step.{Block, list, map, attributes, Due, value, object as object-due, item as item-due, key, equals, Step, go, deep, after, closed, opened, onObject, onValue, onItem, onKey, onEquals, endList, endMap, endAttributes, step}
+use Rattle.automaton.specs.Step.{Block, list, map, attributes, Due, value, object as object-due, item as item-due, key, equals, go, deep, after, closed, opened, onObject, onValue, onItem, onKey, onEquals, endList, endMap, endAttributes, step}
 use Rattle.scan.specs.Walk.{arrive, onRead, walk, scanOf}
 use Rattle.scan.proofs.Tokens.{token-grows}
 use Rattle.scan.proofs.Laws.{walk-unfolds, walk-more}

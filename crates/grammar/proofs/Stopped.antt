@@ -1,16 +1,14 @@
 -- Incomplete means only that the bytes ended inside a value, and a refusal is that of the first wrong token in reading order. Both hold
 -- both ways round, so that neither a scan that always says Incomplete nor one that refuses everything meets them.
-use mathlib.Core.Path.{_≡_, refl, sym, ap, subst, _∙_}
+use mathlib.Core.Path.{_≡_, refl, sym, _∙_}
 use mathlib.Core.Logic.{_↔_}
-use Prim.Native.Nat.{ℕ, _+_, _<_}
+use Prim.Native.Nat.{ℕ}
 use mathlib.Core.List.{List, [], _∷_}
 use native.Mathlib.Omega.{arith}
-use lib.ListN.{length, getD}
 use Rattle.refusal.specs.Numbers.{notValue}
-use Rattle.refusal.specs.Paper.{Paper, gives, more, refused, spot}
+use Rattle.refusal.specs.Paper.{Paper, more, refused}
 use Rattle.refusal.specs.declared.Format.{Format}
 use Rattle.refusal.specs.declared.Format.the-variants.{Binary}
-use Rattle.token.specs.declared.Kind.the-variants.{CloseList}
 use Rattle.lexer.specs.Lexer.{kindAt, list-closes}
 use Rattle.lexer.proofs.Laws.{ends, mark-here, skip-binary}
 use Rattle.automaton.specs.Step.{Block, Due, value, wrong, onValue, onObject, step}

@@ -1,12 +1,10 @@
 -- The strict grammar is the public one, and what it has the loose one has too.
-use mathlib.Core.Path.{_≡_}
 use mathlib.Core.Logic.{_↔_}
 use Prim.Native.Nat.{ℕ}
-use mathlib.Core.Bool.{Bool, true, false}
 use mathlib.Core.List.{List}
 use lib.Dec.{T}
 use Rattle.refusal.specs.declared.Format.{Format}
-use Rattle.grammar.specs.Grammar.{Looseness, strict, loose, Slot, opening, filled, parted, mayPart, mayFill, Shape, tree, object, items, pairs, Reads, plain, attributed, string, scalar, a-list, a-map, items-end, item, items-part, pairs-end, pair, pairs-part}
+use Rattle.grammar.specs.Grammar.{Looseness, strict, loose, Slot, opening, filled, parted, mayPart, mayFill, Shape, items, pairs, Reads, plain, attributed, string, scalar, a-list, a-map, items-end, item, items-part, pairs-end, pair, pairs-part}
 use Rattle.grammar.specs.Public.{Fragment, empty, last, then, ListItem, KeyValuePair}
 
 -- 1. Looser

@@ -1,7 +1,7 @@
 -- A state that fits its buffer still fits after each call, and an accepted opening fits. Assumes nothing but that the array of kinds
 -- has its 128 bytes, which the calls keep too.
 use mathlib.Core.Path.{_≡_, refl, sym, _∙_}
-use mathlib.Core.Bool.{Bool, true, false, _&&_}
+use mathlib.Core.Bool.{true, _&&_}
 use mathlib.Core.List.{List, []}
 use Prim.Native.Nat.{ℕ, _+_, _-_, _≤_}
 use native.Mathlib.Omega.{arith}

@@ -21,7 +21,7 @@ use Rattle.reader.specs.Meaning.{Handed, ended, Looked, looked}
 use Rattle.reader.specs.Calls.{bufferedOf, stateAt, skippedOf, readOf, waitOf, handOut, lookOf, nextBy}
 use Rattle.buffer.specs.Buffer.{isSeparator, separators}
 use Rattle.blocks.proofs.Firsts.{pick-case}
-use Rattle.reader.proofs.Shell.{within, next-looks}
+use Rattle.reader.proofs.Shell.{next-looks}
 use Rattle.history.specs.Facts.{unpassed, HandsOut, progressOf}
 use Rattle.history.proofs.Readings.{Stops, stops, stops-again}
 use Rattle.history.proofs.Kept.{Kept, kept, kept-fits, skip-kept, wait-state, next-kept}

@@ -1,9 +1,9 @@
 -- What the theorems about the calls speak of: facts asked of a state, and what a call leaves.
 use mathlib.Core.Path.{_≡_}
 use Prim.Native.Nat.{ℕ, _+_, _-_, _≤_, _<_}
-use mathlib.Core.List.{List, [], _++_}
+use mathlib.Core.List.{List, []}
 use lib.Dec.{ltb}
-use lib.ListN.{length, drop}
+use lib.ListN.{length}
 use Rattle.refusal.specs.Numbers.{strangeState}
 use Rattle.refusal.specs.Paper.{Paper, gives, more, refused, pick}
 use Rattle.automaton.specs.Limit.{mostOpen}

@@ -6,7 +6,7 @@ use Prim.Native.Nat.{ℕ, zero, suc, _+_, _-_, _≤_, _<_}
 use native.Mathlib.Omega.{arith}
 use lib.Dec.{eqb}
 use lib.ListN.{length, getD, set}
-use borrow.Author.Tests.{eq-eqb, ne-eqb, lt-ltb, le-ltb, le-leb, lt-leb}
+use borrow.Author.Tests.{ne-eqb, lt-ltb, le-ltb, le-leb, lt-leb}
 use Rattle.refusal.specs.Numbers.{notValue, notKey}
 use Rattle.refusal.specs.Paper.{pick}
 use Rattle.automaton.specs.Limit.{mostOpen}
@@ -15,7 +15,7 @@ use Rattle.automaton.specs.Step as automaton
 use Rattle.kept.specs.declared.Blocks.{Blocks}
 use Rattle.kept.specs.declared.Due.{Due}
 use Rattle.kept.specs.declared.Due.the-variants.{Value, Object, Item, Key, Equals}
-use Rattle.kept.specs.Kept.{blockOf, byteOf, openIn, blocksOf, around, dueOf, keptDue, innermost, kindsThen, blocksThen, kindKnown, kindsKnown, takes, dueFits, blocksFit}
+use Rattle.kept.specs.Kept.{blockOf, byteOf, openIn, around, dueOf, keptDue, innermost, kindsThen, blocksThen, kindKnown, kindsKnown, takes, dueFits, blocksFit}
 
 -- ---- the stack
 

@@ -1,8 +1,7 @@
 -- All that the scan and the stream need of a token reader, in either format. Assumes nothing.
 use mathlib.Core.Path.{_≡_, refl, sym, ap, _∙_}
-use mathlib.Core.Logic.{⊎-elim}
 use mathlib.Core.List.{List, [], _∷_, _++_}
-use Prim.Native.Nat.{ℕ, suc, _+_, _≤_, _<_}
+use Prim.Native.Nat.{ℕ, _+_, _≤_, _<_}
 use native.Mathlib.Omega.{arith}
 use lib.ListN.{length, getD}
 use borrow.Author.Tests.{le-ltb}
@@ -10,13 +9,12 @@ use Rattle.refusal.specs.Numbers.{badByte, unknownWord}
 use Rattle.refusal.specs.Paper.{Paper, gives, more, refused, Spot, spot}
 use Rattle.refusal.specs.declared.Format.{Format}
 use Rattle.refusal.specs.declared.Format.the-variants.{Binary, Text}
-use Rattle.refusal.proofs.Cases.{either}
 use Rattle.token.specs.declared.Token.{Token}
 use Rattle.token.specs.declared.Kind.{Kind}
 use Rattle.token.specs.Meaning.{kindsOf}
 use Rattle.token.specs.Marks.{markOf}
 use Rattle.token.proofs.Sound.{Sound}
-use Rattle.binary.specs.Binary.{binaryFrom, marked}
+use Rattle.binary.specs.Binary.{marked}
 use Rattle.binary.proofs.Laws as bin
 use Rattle.binary.proofs.Callers as bc
 use Rattle.blanks.specs.Skip.{skipFrom}
@@ -28,7 +26,7 @@ use Rattle.text.specs.Text.{started, startedAt, textFrom}
 use Rattle.text.proofs.Laws.{nothing-started, something-started}
 use Rattle.text.proofs.Callers as tc
 use Rattle.lexer.specs.Lexer.{tokenFrom, tokenAt, kindAt, skipOf, Mark, list-opens, list-closes, map-opens, map-closes, attributes-open, attributes-close, equals-stands, separator-stands}
-use Rattle.lexer.proofs.Only.{Only, binary-only, text-only}
+use Rattle.lexer.proofs.Only.{binary-only, text-only}
 
 -- the token at a place starts behind what is ignored there, and ends within the bytes
 pub sound : (f : Format) (s : List ℕ) (at : ℕ) → Sound (length s) (skipOf f s at) (tokenFrom f s at)

@@ -1,8 +1,7 @@
 -- No two answers of this crate mean the same: from what an answer means the answer is found again. Assumes nothing.
 use mathlib.Core.Path.{_≡_, refl, sym, ap, _∙_}
 use mathlib.Core.List.{[], _∷_}
-use Prim.Native.Nat.{ℕ}
-use Rattle.refusal.specs.Paper.{Paper, gives, more, refused}
+use Rattle.refusal.specs.Paper.{gives, more, refused}
 use Rattle.refusal.specs.Meaning.{namedBy}
 use Rattle.refusal.proofs.Laws.{named-by-its-number}
 use Rattle.lookup.specs.Count.{Counted, counted, countMeaning}

@@ -3,14 +3,12 @@ use mathlib.Core.Path.{_≡_, refl, sym, ap, _∙_}
 use mathlib.Core.Bool.{Bool, true, false, _||_}
 use mathlib.Core.List.{List, [], _∷_}
 use Prim.Native.Nat.{ℕ, zero, suc, _+_, _-_, _≤_, _<_}
-use native.Mathlib.Numerals.{add-one}
 use native.Mathlib.Omega.{arith}
 use native.Mathlib.Nat.{eq-or-lt-of-le}
 use mathlib.Core.Logic.{_⊎_, inl, inr, ⊎-elim}
 use borrow.Author.Tests.{lt-ltb, le-ltb, ltb-false, eq-eqb, ne-eqb, not-true, not-false}
 use lib.Dec.{ltb, eqb}
 use lib.ListN.{length, getD, drop, drop-of-length-le, length-drop}
-use lib.Seq.{drop-cons}
 use Rattle.search.proofs.Laws.{drop-more}
 use Rattle.refusal.specs.Paper.{pick}
 use Rattle.refusal.proofs.Cases.{either}
@@ -18,9 +16,9 @@ use Rattle.marks.specs.Classes.{isOther}
 use Rattle.search.specs.First.{firstFrom}
 use Rattle.search.proofs.Laws.{first-found, same-at-first, from-ge, from-le}
 use Rattle.token.specs.Digits.{isDigit}
-use Rattle.number.specs.Bytes.{isMinus, isSign, isPoint, isExponent, isPointed, isText, isUnsigned, starts, any}
-use Rattle.number.specs.Grammar.{past, afterSign, Left, none, left, onward, spent, digitsLeft, pointLeft, mantissaLeft, exponentLeft, doubleLeft, isDouble}
-use Rattle.number.specs.Places.{Leaves, leftAt, MayLeave, Whole}
+use Rattle.number.specs.Bytes.{isSign, isPoint, isExponent, starts, any}
+use Rattle.number.specs.Grammar.{past, afterSign, none, left, onward, spent, digitsLeft, pointLeft, mantissaLeft, exponentLeft, doubleLeft, isDouble}
+use Rattle.number.specs.Places.{Leaves, leftAt, MayLeave}
 use Rattle.number.proofs.Runs.{past-none, past-one, past-less}
 
 module _ (s : List ℕ) (p : ℕ) where

@@ -1,17 +1,14 @@
 -- Where one walk over a number settles its end: few digits, or a double, with no number text behind. Assumes nothing.
 use mathlib.Core.Path.{_≡_, refl, sym, ap, _∙_}
-use mathlib.Core.Bool.{Bool, true, false, _||_}
+use mathlib.Core.Bool.{Bool, true, false}
 use mathlib.Core.List.{List, [], _∷_, _++_}
 use Prim.Native.Nat.{ℕ, _+_, _-_, _^_, _≤_, _<_}
 use native.Mathlib.Omega.{arith}
-use borrow.Author.Tests.{ne-eqb}
 use lib.Dec.{lit≤}
 use lib.ListN.{length, getD, drop, length-append, length-drop}
-use Rattle.refusal.specs.Paper.{Paper, gives, refused, Spot, spot, pick}
-use Rattle.token.specs.declared.Token.{Token}
-use Rattle.token.specs.declared.Token.the-variants.{Int64, Uint64, Decimal}
+use Rattle.refusal.specs.Paper.{pick}
 use Rattle.token.specs.Digits.{isDigit}
-use Rattle.number.specs.Bytes.{isMinus, isPointed, isText, isUnsigned, starts, any, all}
+use Rattle.number.specs.Bytes.{isMinus, isPointed, isText, isUnsigned, starts, any}
 use Rattle.number.specs.Grammar.{front, past, afterSign, Left, none, left, onward, spent, mantissaLeft, exponentLeft, doubleLeft, isUpTo, isDouble}
 use Rattle.token.specs.Ends.{endOf}
 use Rattle.number.specs.Number.{isUint64, isInt64, uint64Text, doubleText, int64Text, numberAt}
@@ -20,7 +17,7 @@ use Rattle.number.proofs.Classes.{digit-in, minus-in, pointed-in, unsig
 use Rattle.number.proofs.Runs.{front-past, past-none, past-past, all-past, starts-append, starts-front, sign-append, sign-past, rest-any, then, digits-append, double-then, double-past}
 use Rattle.number.proofs.Ends.{starts-at, some-run, left-at}
 use Rattle.number.proofs.Values.{few-digits}
-use Rattle.number.proofs.Tokens.{text-length, text-uint, text-double, text-int}
+use Rattle.number.proofs.Tokens.{text-uint, text-double, text-int}
 
 append-none : (z x : List ℕ) → z ++ x ≡ x → z ≡ []
 append-none [] x e = refl

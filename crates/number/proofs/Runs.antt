@@ -3,13 +3,13 @@
 use mathlib.Core.Path.{_≡_, refl, sym, ap, _∙_}
 use mathlib.Core.Bool.{Bool, true, false, _&&_, _||_}
 use mathlib.Core.List.{List, [], _∷_, _++_}
-use Prim.Native.Nat.{ℕ, suc, _+_, _-_, _≤_, _<_}
+use Prim.Native.Nat.{ℕ, suc, _≤_, _<_}
 use native.Mathlib.Omega.{arith}
-use lib.ListN.{length, length-append}
+use lib.ListN.{length}
 use Rattle.refusal.specs.Paper.{pick}
 use Rattle.token.specs.Digits.{isDigit}
-use Rattle.number.specs.Bytes.{isMinus, isSign, isPoint, isExponent, isPointed, isText, starts, any, all}
-use Rattle.number.specs.Grammar.{front, past, afterSign, Left, none, left, onward, spent, digitsLeft, pointLeft, mantissaLeft, exponentLeft, doubleLeft, isDouble, isDecimal}
+use Rattle.number.specs.Bytes.{isSign, isPoint, isExponent, isPointed, isText, starts, any, all}
+use Rattle.number.specs.Grammar.{front, past, afterSign, Left, none, left, onward, digitsLeft, pointLeft, mantissaLeft, exponentLeft, doubleLeft}
 use Rattle.number.proofs.Classes.{In, Apart, digit-in, sign-in, point-in, exponent-in, digit-apart, sign-apart, starts-less}
 
 -- ---- bytes of a class in front

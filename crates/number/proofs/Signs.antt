@@ -4,7 +4,7 @@ use Prim.Native.Nat.{ℕ, zero, suc, _-_, _^_, _≤_, _<_}
 use native.Mathlib.Nat.{zero-add}
 use native.Mathlib.Omega.{arith}
 use lib.Dec.{lit<}
-use lib.IntN.{ℤ, pos, negsuc, negℤ, _-ℤ_}
+use lib.IntN.{pos, negsuc, negℤ, _-ℤ_}
 use mir.Syntax.{w64}
 use mir.Val.{toZ, SFits}
 use mir.ValLaws.{toZ-pos}

@@ -1,22 +1,20 @@
 -- Each way to the answer about a number: from what its text says, and from the place where its text ends. Assumes nothing.
-use mathlib.Core.Path.{_≡_, refl, sym, ap, _∙_}
-use mathlib.Core.Bool.{Bool, true, false, not, _&&_}
+use mathlib.Core.Path.{_≡_, sym, ap, _∙_}
+use mathlib.Core.Bool.{true, false}
 use mathlib.Core.List.{List, [], _∷_, _++_}
 use Prim.Native.Nat.{ℕ, _+_, _-_, _^_, _≤_, _<_}
 use native.Mathlib.Omega.{arith}
 use borrow.Author.Tests.{lt-ltb, le-ltb, eq-eqb, ne-eqb}
 use lib.IntN.{ℤ, pos, negℤ}
-use lib.ListN.{length, getD, drop, take, length-append, length-drop}
+use lib.ListN.{length, drop, take, length-append, length-drop}
 use lib.Seq.{take-at}
 use Rattle.refusal.specs.Numbers.{badUint64, badDouble, badInt64, beyondSlice}
-use Rattle.refusal.specs.Paper.{Paper, gives, more, refused, Spot, spot, pick}
-use Rattle.token.specs.declared.Token.{Token}
+use Rattle.refusal.specs.Paper.{gives, more, refused, spot}
 use Rattle.token.specs.declared.Token.the-variants.{Int64, Uint64, Decimal}
 use Rattle.number.specs.Bytes.{isMinus, isPointed, isText, isUnsigned, starts, any}
-use Rattle.number.specs.Grammar.{front, past, afterSign, value, isUpTo, isDouble}
+use Rattle.number.specs.Grammar.{front, past, afterSign, isDouble}
 use Rattle.number.specs.Number.{isUint64, isInt64, int64Of, uint64Text, doubleText, int64Text, numberText, numberOf, numberAt}
-use Rattle.number.specs.Places.{Leaves, upTo}
-use Rattle.number.specs.declared.Magnitude.{Magnitude}
+use Rattle.number.specs.Places.{upTo}
 use Rattle.number.specs.declared.Magnitude.the-variants.{Value, Bad}
 use Rattle.number.proofs.Runs.{front-past}
 use Rattle.number.proofs.Values.{up-to-true, up-to-value, up-to-bad}

@@ -1,8 +1,8 @@
 -- The number that digits write: by place, against a limit, and how large so many digits can be. Assumes nothing.
-use mathlib.Core.Path.{_≡_, refl, sym, ap, _∙_}
-use mathlib.Core.Bool.{Bool, true, false, _&&_, and-self-left, and-false}
+use mathlib.Core.Path.{_≡_, refl, _∙_}
+use mathlib.Core.Bool.{Bool, true, false, _&&_, and-self-left}
 use mathlib.Core.List.{List, [], _∷_}
-use Prim.Native.Nat.{ℕ, zero, suc, _+_, _*_, _-_, _^_, _≤_, _<_}
+use Prim.Native.Nat.{ℕ, _+_, _*_, _-_, _^_, _≤_, _<_}
 use native.Mathlib.Nat.{le-trans, le-refl, mul-le-mul-right, mul-assoc, pow-succ', pow-le-pow-right}
 use native.Mathlib.Omega.{arith}
 use borrow.Author.Tests.{le-leb, lt-leb}
@@ -15,7 +15,7 @@ use Rattle.number.specs.Grammar.{isDecimal, valueAfter, value, isUpTo}
 use Rattle.number.specs.Places.{upTo, AtMost}
 use Rattle.number.specs.declared.Magnitude.{Magnitude}
 use Rattle.number.specs.declared.Magnitude.the-variants.{Value, Bad}
-use Rattle.number.proofs.Classes.{digit-from, digit-to, and-left, and-right}
+use Rattle.number.proofs.Classes.{digit-to, and-left, and-right}
 use Rattle.search.proofs.Laws.{drop-more}
 
 -- more digits never make a number less

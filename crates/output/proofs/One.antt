@@ -1,5 +1,5 @@
 -- What `put_decimal` promises is one place and one output: the fewest digits of a number are one number of digits. Assumes nothing.
-use mathlib.Core.Path.{_≡_, refl, sym, ap, subst, _∙_}
+use mathlib.Core.Path.{_≡_, refl, sym, ap, _∙_}
 use mathlib.Core.Bool.{Bool, true, false}
 use mathlib.Core.List.{List}
 use Prim.Native.Nat.{ℕ, _-_, _^_, _≤_, _<_}

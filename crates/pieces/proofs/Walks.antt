@@ -4,9 +4,9 @@ use mathlib.Core.List.{List, [], _∷_}
 use Prim.Native.Nat.{ℕ, zero, suc, _+_, _-_, _≤_, _<_}
 use native.Mathlib.Nat.{zero-add}
 use native.Mathlib.Omega.{arith}
-use borrow.Author.Tests.{eq-eqb, ne-eqb}
+use borrow.Author.Tests.{ne-eqb}
 use lib.ListN.{length, getD, drop, take, drop-of-length-le, length-drop}
-use lib.Seq.{drop-cons, drop-drop, take-all}
+use lib.Seq.{drop-drop, take-all}
 use Rattle.search.proofs.Laws.{drop-more}
 use Rattle.pieces.specs.Pieces.{End, closed, badHex, cut, Piece, byte, ends, escapeOf, pieceOf, Walk, giving, onward, walk}
 use Rattle.pieces.specs.Answers.{measuredAs, measureOf}

@@ -1,24 +1,23 @@
 -- One law for each way through the definition of the quoted string at a place, from what the private functions answer.
 use mathlib.Core.Path.{_≡_, refl, sym, ap, _∙_}
 use mathlib.Core.Bool.{Bool, true, false}
-use mathlib.Core.List.{List, [], _∷_, _++_}
+use mathlib.Core.List.{List, [], _∷_}
 use Prim.Native.Nat.{ℕ, suc, _+_, _-_, _≤_, _<_}
 use native.Mathlib.Omega.{arith}
-use borrow.Author.Tests.{lt-ltb, le-ltb, lt-leb, le-leb, eqb-true}
+use borrow.Author.Tests.{lt-ltb, le-ltb, lt-leb, le-leb}
 use lib.Dec.{eqb, ltb}
 use lib.ListN.{length, getD, drop, take, length-drop}
 use lib.Seq.{drop-drop, getD-drop}
 use Rattle.refusal.specs.Numbers.{beyondSlice, badHexEscape}
-use Rattle.refusal.specs.Paper.{Paper, gives, more, refused, Spot, spot}
+use Rattle.refusal.specs.Paper.{gives, more, refused, spot}
 use Rattle.token.specs.Ends.{endOf}
-use Rattle.token.specs.declared.Token.{Token}
 use Rattle.token.specs.declared.Token.the-variants.{String, Escaped}
 use Rattle.pieces.specs.Pieces.{End, closed, badHex, cut, Walk, walk}
 use Rattle.pieces.specs.Answers.{measureOf}
 use Rattle.pieces.specs.declared.Measured.the-variants.{Closed, Cut, Bad}
 use Rattle.search.proofs.Laws.{drop-more}
 use Rattle.pieces.proofs.Walks.{walk-quote, told-bad, told-cut, told-closed}
-use Rattle.quoted.specs.Quoted.{Closing, closesAt, unclosed, closing, hidden, stands, judged, closedAs, quotedAt}
+use Rattle.quoted.specs.Quoted.{closesAt, closing, hidden, stands, judged, closedAs, quotedAt}
 use Rattle.quoted.specs.Inside.{plain, closingBy, Opens}
 use Rattle.quoted.proofs.Places.{closing-by, close-out, close-quote}
 use Rattle.quoted.proofs.Plain.{ahead, plain-closing, plain-walk, plain-none, plain-stops, stands-at}

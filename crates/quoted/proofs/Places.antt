@@ -1,12 +1,12 @@
 -- The closing quote by place: what holds from a place holds from the next.
-use mathlib.Core.Path.{_≡_, refl, ap}
-use mathlib.Core.List.{List, [], _∷_}
+use mathlib.Core.Path.{_≡_, refl}
+use mathlib.Core.List.{List}
 use Prim.Native.Nat.{ℕ, zero, suc, _+_, _≤_, _<_}
 use native.Mathlib.Omega.{arith}
 use borrow.Author.Tests.{ne-eqb}
 use lib.ListN.{length, getD, drop, drop-of-length-le}
 use Rattle.search.proofs.Laws.{drop-more}
-use Rattle.quoted.specs.Quoted.{Closing, closesAt, unclosed, closing, hidden}
+use Rattle.quoted.specs.Quoted.{closesAt, unclosed, closing}
 use Rattle.quoted.specs.Inside.{closingBy}
 
 -- a number that is not 0 is a place

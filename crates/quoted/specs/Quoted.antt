@@ -9,7 +9,7 @@ use Rattle.refusal.specs.Paper.{Paper, gives, more, refused, Got, got, Spot, sp
 use Rattle.token.specs.declared.Token.{Token}
 use Rattle.token.specs.declared.Token.the-variants.{String, Escaped}
 use Rattle.pieces.specs.Bytes.{quote, backslash}
-use Rattle.pieces.specs.Pieces.{End, closed, badHex, cut, Walk, walk}
+use Rattle.pieces.specs.Pieces.{End, closed, badHex, cut, walk}
 
 -- the place of the closing quote, if there is one
 pub data Closing : Type 0 where

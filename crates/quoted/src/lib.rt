@@ -3,7 +3,7 @@
 // escapes; the private functions answer in one number, which specs/Inside.antt reads.
 ghost use mathlib.Core.Path.{_≡_};
 ghost use Prim.Native.Nat.{_+_, _<_};
-ghost use lib.ListN.{length, getD, drop};
+ghost use lib.ListN.{drop};
 ghost use Rattle.token.specs.Meaning.{readMeaning};
 ghost use Rattle.token.specs.Ends.{endOf};
 ghost use Rattle.quoted.specs.Quoted.{closing, quotedAt};

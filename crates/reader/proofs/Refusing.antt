@@ -3,7 +3,7 @@ use mathlib.Core.Path.{_≡_, refl, ap, _∙_}
 use mathlib.Core.Bool.{Bool, true, false, _&&_}
 use Prim.Native.Nat.{ℕ, _+_, _≤_, _<_}
 use borrow.Author.Tests.{le-leb}
-use Rattle.places.specs.Places.{leastBuffer, mostBuffer, mostOffset, isBuffer}
+use Rattle.places.specs.Places.{leastBuffer, mostBuffer, mostOffset}
 use Rattle.places.proofs.Tests.{len-not, buffer-not, in-range, too-short, all-fit}
 use Rattle.reader.specs.declared.State.{State}
 use Rattle.reader.specs.Fits.{heldOf, fits, placesAgree, offsetAgrees, blocksAgree}

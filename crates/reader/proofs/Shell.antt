@@ -1,22 +1,22 @@
 -- 28's tests as facts, and what follows from them. Assumes nothing.
-use mathlib.Core.Path.{_≡_, refl, sym, ap, _∙_}
-use mathlib.Core.Bool.{Bool, true, false, _&&_}
-use mathlib.Core.List.{List, [], _∷_, _++_}
-use Prim.Native.Nat.{ℕ, zero, suc, _+_, _-_, _≤_, _<_}
+use mathlib.Core.Path.{_≡_, refl}
+use mathlib.Core.Bool.{true, false, _&&_}
+use mathlib.Core.List.{List, [], _++_}
+use Prim.Native.Nat.{ℕ, _+_, _-_, _≤_}
 use native.Mathlib.Omega.{arith}
 use lib.ListN.{length, take, drop}
 use lib.Seq.{slice, length-slice}
 use lib.Dec.{eqb}
 use borrow.Author.Tests.{leb-true}
 use Rattle.refusal.specs.Numbers.{strangeState}
-use Rattle.refusal.specs.Paper.{Paper, gives, refused, pick}
+use Rattle.refusal.specs.Paper.{gives, refused}
 use Rattle.automaton.specs.Limit.{mostOpen}
 use Rattle.places.specs.Places.{offsetFits}
 use Rattle.places.proofs.Tests.{both, placed}
 use Rattle.kept.specs.declared.Blocks.{Blocks}
 use Rattle.kept.specs.Kept.{kindsKnown, depthWithin, depthWithinPassed, dueFits, blocksFit}
-use Rattle.blocks.specs.Readings.{Reached, Reader, Grows}
-use Rattle.blocks.proofs.Ranged.{Ranged, ranged}
+use Rattle.blocks.specs.Readings.{Reader, Grows}
+use Rattle.blocks.proofs.Ranged.{ranged}
 use Rattle.reader.specs.declared.State.{State}
 use Rattle.reader.specs.Fits.{heldOf, fits, placesAgree, offsetAgrees, blocksAgree, Fitting}
 use Rattle.reader.specs.Meaning.{told, looked}

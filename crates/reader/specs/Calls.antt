@@ -1,7 +1,7 @@
 -- The reader's calls as functions of the state and the buffer's bytes.
 use Prim.Native.Nat.{ℕ, _+_, _-_, _≤_, _<_, min}
 use mathlib.Core.Path.{_≡_}
-use mathlib.Core.Bool.{Bool, true, false}
+use mathlib.Core.Bool.{true, false}
 use mathlib.Core.List.{List, [], _∷_, _++_}
 use lib.ListN.{length, getD, take, drop}
 use lib.Seq.{slice}
@@ -17,7 +17,7 @@ use Rattle.reader.specs.declared.State.{State}
 use Rattle.reader.specs.declared.Mark.{Mark}
 use Rattle.reader.specs.declared.Mark.the-variants.{Row, Control}
 use Rattle.reader.specs.Fits.{heldOf, fits}
-use Rattle.reader.specs.Meaning.{Done, done, Handed, handed, ended, Told, told, Looked, looked}
+use Rattle.reader.specs.Meaning.{Done, done, handed, ended, Told, told, Looked, looked}
 
 -- ---- opening
 

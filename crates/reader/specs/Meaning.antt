@@ -1,6 +1,6 @@
 -- What the answers of the calls mean: this paper's number and values for each case.
 use Prim.Native.Nat.{ℕ}
-use mathlib.Core.List.{List, [], _∷_}
+use mathlib.Core.List.{[], _∷_}
 use Rattle.refusal.specs.Numbers.{malformedRecord, cutShort, recordTooLong, bufferLength, afterClosing, offsetTooHigh, strangeState}
 use Rattle.refusal.specs.Paper.{Paper, gives, more, refused}
 use Rattle.refusal.specs.Meaning.{numberOf, placeOf}

@@ -1,11 +1,10 @@
 -- No two refusals mean the same: a number and a place fix the case, and a number fixes the cause. Assumes nothing.
 use mathlib.Core.Path.{_≡_, refl, sym, ap, ap₂, _∙_}
-use mathlib.Core.List.{List, [], _∷_}
-use Prim.Native.Nat.{ℕ, suc, _≤_, _<_}
-use native.Mathlib.Omega.{arith}
+use mathlib.Core.List.{[], _∷_}
+use Prim.Native.Nat.{ℕ, _≤_, _<_}
 use lib.Dec.{eqb, lit≤}
 use Rattle.refusal.specs.Numbers.{badByte, tooDeep, notString, malformedRecord, cutShort, recordTooLong, bufferLength, afterClosing, offsetTooHigh, beyondSlice, shortOutput, strangeState}
-use Rattle.refusal.specs.Paper.{Paper, gives, more, refused, pick}
+use Rattle.refusal.specs.Paper.{Paper, refused, pick}
 use Rattle.refusal.specs.Meaning.{numberOf, placeOf, refusalMeaning, namedBy, movedTo, callNumberOf}
 use Rattle.refusal.specs.declared.Refusal.{Refusal}
 use Rattle.refusal.specs.declared.Refusal.the-variants.{BadByte, NegativeLength, LongVarint, WideVarint, BadHexEscape, BadUint64, BadDouble, BadInt64, UnknownWord, NotValue, NotKey, NotEquals, TooDeep}

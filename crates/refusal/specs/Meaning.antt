@@ -1,7 +1,6 @@
 -- What each refusal means: the paper's number, and the values that it carries.
-use Prim.Native.Nat.{ℕ, zero, suc}
-use mathlib.Core.List.{List, [], _∷_}
-use mathlib.Core.Bool.{Bool, true, false}
+use Prim.Native.Nat.{ℕ}
+use mathlib.Core.List.{[], _∷_}
 use lib.Dec.{eqb}
 use Rattle.refusal.specs.Numbers.{badByte, negativeLength, longVarint, wideVarint, badHexEscape, badUint64, badDouble, badInt64, unknownWord, notValue, notKey, notEquals, tooDeep, notString, malformedRecord, cutShort, recordTooLong, bufferLength, afterClosing, offsetTooHigh, beyondSlice, shortOutput, strangeState, badCall}
 use Rattle.refusal.specs.Paper.{Paper, refused, pick}

@@ -1,16 +1,16 @@
 -- Tokens that are passed: a kept place stands for the whole run, and stays good where bytes are added behind (binary).
-use mathlib.Core.Path.{_≡_, refl, sym, ap, subst, _∙_}
-use Prim.Native.Nat.{ℕ, zero, suc, _+_, _≤_, _<_}
-use mathlib.Core.List.{List, [], _∷_, _++_}
+use mathlib.Core.Path.{_≡_, refl, ap, subst, _∙_}
+use Prim.Native.Nat.{ℕ, _+_, _≤_}
+use mathlib.Core.List.{List, _++_}
 use native.Mathlib.Omega.{arith}
 use lib.ListN.{length}
-use Rattle.refusal.specs.Paper.{Paper, gives, more, refused, Spot, spot}
+use Rattle.refusal.specs.Paper.{gives, spot}
 use Rattle.refusal.specs.declared.Format.{Format}
 use Rattle.refusal.specs.declared.Format.the-variants.{Binary}
 use Rattle.token.specs.declared.Kind.{Kind}
 use Rattle.lexer.specs.Lexer.{kindAt}
 use Rattle.lexer.proofs.Laws.{settled}
-use Rattle.automaton.specs.Step.{Block, Due, Step, go, step}
+use Rattle.automaton.specs.Step.{Block, Due}
 use Rattle.scan.specs.Stops.{Passed, none, passes}
 use Rattle.scan.specs.Walk.{arrive, walk}
 use Rattle.scan.proofs.Tokens.{token-grows}

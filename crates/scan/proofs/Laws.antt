@@ -1,7 +1,7 @@
 -- One step of the run, with no count of steps in sight.
 use mathlib.Core.Path.{_≡_, refl, sym, ap, _∙_}
-use Prim.Native.Nat.{ℕ, zero, suc, _+_, _≤_, _<_}
-use mathlib.Core.List.{List, [], _∷_}
+use Prim.Native.Nat.{ℕ, zero, suc, _+_, _<_}
+use mathlib.Core.List.{List}
 use native.Mathlib.Omega.{arith}
 use lib.ListN.{length}
 use Rattle.refusal.specs.Paper.{Paper, gives, more, refused, Spot, spot}
@@ -9,7 +9,7 @@ use Rattle.refusal.specs.declared.Format.{Format}
 use Rattle.token.specs.declared.Kind.{Kind}
 use Rattle.lexer.specs.Lexer.{kindAt, skipOf}
 use Rattle.lexer.proofs.Laws.{ends, skip-same}
-use Rattle.automaton.specs.Step.{Block, Due, value, Step, go, finished, wrong, deep, step}
+use Rattle.automaton.specs.Step.{Block, Due, Step, go, finished, wrong, deep, step}
 use Rattle.scan.specs.Walk.{Cont, arrive, onRead, runFor, walk}
 use Rattle.scan.proofs.Tokens.{token-grows}
 

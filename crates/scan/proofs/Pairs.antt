@@ -1,7 +1,7 @@
 -- Maps and attribute blocks alike, over plain values: what their first byte opens, and whole pairs passed one after another.
 use mathlib.Core.Path.{_≡_, refl, sym, ap, subst, _∙_}
 use mathlib.Core.Logic.{_⊎_, ⊎-elim}
-use Prim.Native.Nat.{ℕ, suc, _+_, _≤_, _<_}
+use Prim.Native.Nat.{ℕ, _+_, _≤_, _<_}
 use mathlib.Core.Bool.{Bool, true, false}
 use mathlib.Core.List.{List, _∷_}
 use native.Mathlib.Omega.{arith}
@@ -15,7 +15,7 @@ use Rattle.token.specs.Ends.{stringEnd, scalarEnd}
 use Rattle.binary.specs.Binary.{binaryFrom}
 use Rattle.lexer.specs.Lexer.{tokenFrom, kindAt, skipOf, map-opens, attributes-open, equals-stands, separator-stands}
 use Rattle.automaton.specs.Limit.{mostOpen}
-use Rattle.automaton.specs.Step.{Block, map, attributes, value, key, equals, go}
+use Rattle.automaton.specs.Step.{map, attributes, value, key, equals, go}
 use Rattle.scan.specs.Walk.{arrive, walk}
 use Rattle.scan.specs.Post.{answerOf, Begun, Pairs, Along, blockOf, dueOf}
 use Rattle.scan.proofs.Arms.{opens-attributes, opens-map, map-closed, equals-is, key-next, after-key}

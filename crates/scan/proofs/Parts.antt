@@ -9,13 +9,13 @@ use Rattle.refusal.specs.Numbers.{notValue, notKey, notEquals, tooDeep}
 use Rattle.refusal.specs.Paper.{Paper, gives, more, refused, Spot, spot}
 use Rattle.refusal.specs.declared.Format.{Format}
 use Rattle.token.specs.declared.Kind.{Kind}
-use Rattle.token.specs.declared.Kind.the-variants.{Text, Scalar, OpenList, CloseList, OpenMap, CloseMap, OpenAttributes, CloseAttributes, Equals, Semicolon}
+use Rattle.token.specs.declared.Kind.the-variants.{Text, Scalar, Semicolon}
 use Rattle.token.specs.Ends.{stringEnd, scalarEnd}
 use Rattle.lexer.specs.Lexer.{kindAt, skipOf, Mark, list-opens, list-closes, map-opens, map-closes, attributes-open, attributes-close, equals-stands, separator-stands}
 use Rattle.lexer.proofs.Laws.{ends, mark-here, refused-is}
 use Rattle.automaton.specs.Limit.{mostOpen}
-use Rattle.automaton.specs.Step.{Block, list, map, attributes, Due, value, object, item, key, equals, Step, go, wrong, deep, after, closed, opened, step}
-use Rattle.scan.specs.Walk.{Cont, arrive, onRead, walk}
+use Rattle.automaton.specs.Step.{Block, list, attributes, Due, value, object, item, key, equals, Step, go, wrong, deep, after, closed, opened, step}
+use Rattle.scan.specs.Walk.{arrive, onRead, walk}
 use Rattle.scan.specs.Post.{answerOf, whyOf, resume, Past, Part, Tree, Begun, Attributed, Pair, Pairs, dueOf}
 use Rattle.scan.proofs.Tokens.{token-grows, skip-on, skip-here, not-mark, no-text, no-scalar, Ending, text-ends, scalar-ends, none-ends, ending}
 use Rattle.scan.proofs.Laws.{walk-unfolds, walk-token, walk-more, walk-skip}

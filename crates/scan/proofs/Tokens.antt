@@ -1,8 +1,8 @@
 -- What the scan asks of the token reader: a token moves on and ends in the bytes, what is ignored is ignored once, and a mark of one byte
 -- is known by that byte. Nothing else of the two formats is used.
 use mathlib.Core.Path.{_≡_, refl, sym, ap, _∙_}
-use Prim.Native.Nat.{ℕ, _+_, _≤_, _<_}
-use mathlib.Core.List.{List, [], _∷_}
+use Prim.Native.Nat.{ℕ, _≤_, _<_}
+use mathlib.Core.List.{List}
 use native.Mathlib.Omega.{arith}
 use lib.ListN.{length, getD}
 use Rattle.refusal.specs.Paper.{Paper, gives, more, refused, Spot, spot}

@@ -1,7 +1,7 @@
 -- A mark in the top bit of each byte of a kind: the marks of a word say where the first one is.
 use mathlib.Core.Path.{_≡_, refl, sym, ap, _∙_}
 use mathlib.Core.Bool.{Bool, true, false, cond}
-use mathlib.Core.List.{List, [], _∷_}
+use mathlib.Core.List.{List}
 use Prim.Native.Nat.{ℕ, zero, suc, _+_, _*_, _/_, _≤_, _<_}
 use native.Mathlib.Nat.{add-zero}
 use native.Mathlib.Omega.{arith}
@@ -9,7 +9,7 @@ use lib.Count.{trailingZeros}
 use lib.ListN.{length, getD}
 use lib.Dec.{eqb}
 use borrow.Author.Tests.{eqb-true, eqb-false}
-use Rattle.search.specs.First.{first, firstFrom, Before}
+use Rattle.search.specs.First.{firstFrom, Before}
 use Rattle.word.specs.Word.{marksAt}
 use Rattle.word.proofs.Marks.{plus, bitsOf, zeros-none, zeros-mark}
 use Rattle.search.proofs.Laws.{first-here, first-more}

@@ -1,14 +1,14 @@
 -- What a caller may rely on: a token starts where the ignored bytes end, ends behind that place and within the bytes, and a refusal
 -- carries that place; a letter or a quote there tells where the string ends. Assumes nothing.
 use mathlib.Core.Path.{_≡_, refl, sym, ap, _∙_}
-use mathlib.Core.Logic.{_⊎_, inl, inr, ⊎-elim}
+use mathlib.Core.Logic.{⊎-elim}
 use mathlib.Core.Bool.{Bool, true, false, _||_}
 use mathlib.Core.List.{List, [], _∷_}
 use Prim.Native.Nat.{ℕ, suc, _≤_, _<_}
 use native.Mathlib.Omega.{arith}
 use lib.Dec.{eqb, lit≤}
 use lib.ListN.{length, getD}
-use Rattle.refusal.specs.Numbers.{badByte, beyondSlice, badHexEscape, badUint64, badDouble, badInt64, unknownWord}
+use Rattle.refusal.specs.Numbers.{badByte, unknownWord}
 use Rattle.refusal.specs.Paper.{Paper, gives, more, refused, Spot, spot, pick}
 use Rattle.refusal.proofs.Cases.{either}
 use Rattle.token.specs.declared.Token.{Token}

@@ -1,22 +1,22 @@
 -- Which definition a first byte leads to, and the ends of what it starts. Assumes nothing.
-use mathlib.Core.Path.{_≡_, refl, sym, ap, _∙_}
-use mathlib.Core.Bool.{Bool, true, false, _&&_, _||_}
+use mathlib.Core.Path.{_≡_, refl, sym, _∙_}
+use mathlib.Core.Bool.{Bool, true, false, _||_}
 use mathlib.Core.Logic.{⊎-elim}
-use mathlib.Core.List.{List, [], _∷_}
-use Prim.Native.Nat.{ℕ, _+_, _-_, _≤_, _<_}
+use mathlib.Core.List.{List, []}
+use Prim.Native.Nat.{ℕ, _≤_, _<_}
 use native.Mathlib.Omega.{arith}
 use lib.Dec.{eqb, leb}
 use lib.ListN.{length, getD}
 use borrow.Author.Tests.{lt-ltb, le-ltb, le-leb, lt-leb, eq-eqb, ne-eqb}
 use Rattle.refusal.specs.Numbers.{beyondSlice}
-use Rattle.refusal.specs.Paper.{Paper, gives, more, refused, Spot, spot, Got, pick}
+use Rattle.refusal.specs.Paper.{Paper, more, refused, Spot}
 use Rattle.token.specs.declared.Token.{Token}
 use Rattle.token.specs.declared.Kind.the-variants.{Text, Scalar}
-use Rattle.token.specs.Meaning.{kindOf, kindsOf}
+use Rattle.token.specs.Meaning.{kindsOf}
 use Rattle.token.specs.Marks.{markOf, ofMark}
 use Rattle.token.specs.Ends.{endOf, stringEnd, scalarEnd}
 use Rattle.token.specs.Strings.{stringFound}
-use Rattle.token.proofs.Ends.{holds, All, strings-end, strings-scalar, scalars-end, scalars-string, mark-no-string, mark-no-scalar}
+use Rattle.token.proofs.Ends.{holds, All, strings-end, strings-scalar, scalars-end, scalars-string, mark-no-string}
 use Rattle.blanks.specs.Skip.{skipFrom}
 use Rattle.pieces.specs.Bytes.{quote}
 use Rattle.quoted.specs.Quoted.{quotedAt, quotedStringAt}

@@ -9,7 +9,7 @@ use borrow.Author.Tests.{le-leb, le-ltb, ne-eqb}
 use lib.Dec.{lit≤}
 use lib.Seq.{drop-cons}
 use lib.ListN.{length, getD, drop}
-use Rattle.refusal.specs.Paper.{Paper, gives, more, refused, Spot, spot, pick}
+use Rattle.refusal.specs.Paper.{Paper, Spot}
 use Rattle.token.specs.declared.Token.{Token}
 use Rattle.token.specs.Meaning.{kindsOf}
 use Rattle.token.specs.Ends.{endOf, scalarEnd}
@@ -18,7 +18,7 @@ use Rattle.blanks.proofs.Ways.{blank-above}
 use Rattle.token.specs.Digits.{isDigit}
 use Rattle.number.specs.Bytes.{isMinus, isSign, isExponent, isPointed, isText, any, all}
 use Rattle.number.specs.Grammar.{front, past, afterSign, valueAfter, isDecimal, isUpTo}
-use Rattle.number.specs.Number.{isInt64, int64Of, int64Text, numberText, numberOf, numberAt}
+use Rattle.number.specs.Number.{isInt64, int64Text, numberText, numberOf, numberAt}
 use Rattle.text.specs.Text.{startedAt, textFrom}
 use Rattle.text.proofs.Laws.{something-started, is-number, number-scalar-end}
 

@@ -4,7 +4,7 @@ use mathlib.Core.List.{List, []}
 use lib.Dec.{eqb, ltb}
 use lib.ListN.{length, getD}
 use Rattle.refusal.specs.Numbers.{beyondSlice}
-use Rattle.refusal.specs.Paper.{Paper, gives, more, refused, Got, pick}
+use Rattle.refusal.specs.Paper.{Paper, more, refused, Got, pick}
 use Rattle.token.specs.Strings.{stringFound}
 use Rattle.blanks.specs.Skip.{skipFrom}
 use Rattle.pieces.specs.Bytes.{quote}

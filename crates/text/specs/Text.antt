@@ -1,7 +1,7 @@
 -- Text tokens: which one stands at a place, behind blanks and comments. Its first byte says what it is.
 use Prim.Native.Nat.{ℕ, _-_}
-use mathlib.Core.Bool.{Bool, true, false, _||_}
-use mathlib.Core.List.{List, [], _∷_}
+use mathlib.Core.Bool.{Bool, _||_}
+use mathlib.Core.List.{List, []}
 use lib.Dec.{eqb, ltb}
 use lib.ListN.{length, getD}
 use Rattle.refusal.specs.Numbers.{beyondSlice}

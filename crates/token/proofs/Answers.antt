@@ -1,9 +1,9 @@
 -- No two answers about a token mean the same: from what an answer means the answer is found again. Assumes nothing.
 use mathlib.Core.Path.{_≡_, refl, sym, ap, _∙_}
-use mathlib.Core.List.{List, [], _∷_}
+use mathlib.Core.List.{[], _∷_}
 use Prim.Native.Nat.{ℕ}
 use lib.Dec.{eqb}
-use Rattle.refusal.specs.Numbers.{notString, beyondSlice, shortOutput}
+use Rattle.refusal.specs.Numbers.{notString, beyondSlice}
 use Rattle.refusal.specs.Paper.{Paper, gives, more, refused, Got, got, Spot, spot, pick}
 use Rattle.refusal.specs.Meaning.{namedBy}
 use Rattle.refusal.proofs.Laws.{named-by-its-number}

@@ -1,7 +1,6 @@
 -- Ends of tokens, by their kind; and of marks. Assumes nothing.
 use mathlib.Core.Path.{_≡_, refl}
 use mathlib.Core.Bool.{Bool, true, false}
-use mathlib.Core.List.{List}
 use Prim.Native.Nat.{ℕ}
 use lib.Dec.{eqb}
 use borrow.Author.Tests.{ne-eqb}
@@ -10,7 +9,6 @@ use Rattle.token.specs.declared.Token.{Token}
 use Rattle.token.specs.declared.Kind.{Kind}
 use Rattle.token.specs.declared.Kind.the-variants.{Text, Scalar}
 use Rattle.token.specs.declared.Mark.{Mark}
-use Rattle.token.specs.declared.Mark.the-variants.{Is, Not}
 use Rattle.token.specs.Meaning.{kindOf, kindsOf}
 use Rattle.token.specs.Marks.{markOf, ofMark}
 use Rattle.token.specs.Ends.{endOf, stringEnd, scalarEnd}

@@ -1,6 +1,5 @@
 -- What the answer about a token means, and what the scan sees of a token.
-use Prim.Native.Nat.{ℕ}
-use mathlib.Core.List.{List, [], _∷_}
+use mathlib.Core.List.{[]}
 use Rattle.refusal.specs.Numbers.{beyondSlice}
 use Rattle.refusal.specs.Paper.{Paper, gives, more, refused, Spot, spot}
 use Rattle.refusal.specs.Meaning.{refusalMeaning}

@@ -1,6 +1,6 @@
 -- Asking for a string's bytes: the answer, and what the output holds afterwards. Each format says which bytes stand at a place.
 use Prim.Native.Nat.{ℕ}
-use mathlib.Core.List.{List, [], _∷_, _++_}
+use mathlib.Core.List.{List, [], _++_}
 use lib.Dec.{ltb}
 use lib.ListN.{length, take, drop}
 use Rattle.refusal.specs.Numbers.{notString, beyondSlice, shortOutput}

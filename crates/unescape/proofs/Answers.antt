@@ -1,12 +1,12 @@
 -- What `undo` and `unescape` answer, and the output that each way leaves.
-use mathlib.Core.Path.{_≡_, refl, sym, ap, _∙_}
-use mathlib.Core.List.{List, [], _∷_, _++_}
-use Prim.Native.Nat.{ℕ, _+_, _-_, _≤_, _<_}
+use mathlib.Core.Path.{_≡_, ap, _∙_}
+use mathlib.Core.List.{List, []}
+use Prim.Native.Nat.{ℕ, _+_, _≤_, _<_}
 use native.Mathlib.Omega.{arith}
 use borrow.Author.Tests.{lt-ltb, le-ltb}
 use lib.ListN.{length, drop, take}
 use Rattle.refusal.specs.Numbers.{shortOutput}
-use Rattle.refusal.specs.Paper.{Paper, gives, more, refused, Got, got, Spot, spot}
+use Rattle.refusal.specs.Paper.{Paper, gives, refused, Got, got, Spot, spot}
 use Rattle.token.specs.Meaning.{extentOf}
 use Rattle.token.specs.Strings.{bytesAnswer, bytesWritten}
 use Rattle.token.specs.declared.Token.{Token}

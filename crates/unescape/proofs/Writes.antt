@@ -1,7 +1,7 @@
 -- Writing the bytes of a walk: n are written into the output, and the rest of the walk is to be laid over what follows.
-use mathlib.Core.Path.{_≡_, refl, sym, ap, _∙_}
+use mathlib.Core.Path.{_≡_, refl, sym, ap}
 use mathlib.Core.List.{List, [], _∷_, _++_, append-nil, append-assoc}
-use Prim.Native.Nat.{ℕ, zero, suc, _+_, _≤_, _<_}
+use Prim.Native.Nat.{ℕ, suc, _+_, _≤_, _<_}
 use native.Mathlib.Nat.{le-of-suc-le-suc, not-suc-le-zero, lt-suc-self}
 use native.Mathlib.Numerals.{add-one}
 use lib.ListN.{length, drop, take, set, drop-of-length-le, take-append-drop}

@@ -3,7 +3,7 @@
 ghost use mathlib.Core.Path.{_≡_};
 ghost use lib.ListN.{length, drop};
 ghost use Rattle.token.specs.Strings.{unescapedMeaning, bytesAnswer, bytesWritten};
-ghost use Rattle.pieces.specs.Pieces.{End, closed, walk};
+ghost use Rattle.pieces.specs.Pieces.{closed, walk};
 ghost use Rattle.quoted.specs.Quoted.{quotedStringAt};
 ghost use Rattle.unescape.specs.Overlay.{overlay, bytesFrom};
 use pieces::Escaped;

@@ -1,10 +1,10 @@
 -- No two answers of this crate mean the same: from what an answer means the answer is found again. Assumes nothing.
 use mathlib.Core.Path.{_≡_, refl, sym, ap, _∙_}
-use mathlib.Core.List.{List, [], _∷_}
+use mathlib.Core.List.{[], _∷_}
 use Prim.Native.Nat.{ℕ}
 use lib.IntN.{ℤ}
 use Rattle.refusal.specs.Paper.{Paper, gives, more, refused, Got, got}
-use Rattle.refusal.specs.Meaning.{numberOf, placeOf, namedBy}
+use Rattle.refusal.specs.Meaning.{namedBy}
 use Rattle.refusal.proofs.Laws.{named-by-its-number}
 use Rattle.varint.specs.Meaning.{uvarintMeaning, varintMeaning, writtenMeaning}
 use Rattle.varint.specs.declared.Uvarint.{Uvarint}

@@ -1,13 +1,12 @@
 -- Bytes that come later change no answer but `more`: what a reader of a stream leans on. Assumes nothing.
-use mathlib.Core.Path.{_≡_, refl, sym, ap, ap₂, _∙_}
-use mathlib.Core.Logic.{_⊎_, inl, inr, ⊎-elim}
+use mathlib.Core.Path.{_≡_, sym, ap, _∙_}
+use mathlib.Core.Logic.{⊎-elim}
 use mathlib.Core.List.{List, [], _∷_, _++_}
 use Prim.Native.Nat.{ℕ, suc, _+_, _%_, _≤_, _<_, zero-le}
 use native.Mathlib.Omega.{arith}
 use lib.ListN.{length, take, drop, getD, length-append, List·getD-append}
 use lib.Seq.{take-append-le, drop-append-le}
-use Rattle.refusal.specs.Numbers.{longVarint, wideVarint, beyondSlice}
-use Rattle.refusal.specs.Paper.{Paper, gives, more, refused, Got, got, pick}
+use Rattle.refusal.specs.Paper.{more}
 use Rattle.refusal.proofs.Cases.{either}
 use Rattle.varint.specs.Varint.{run, number, uvarint, uvarintAt}
 use Rattle.varint.proofs.Read.{giving, run-yes, run-no, no-four, no-four-yet, is-over, is-long, is-more, is-more-ten, at-is}

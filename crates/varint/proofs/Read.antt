@@ -5,7 +5,7 @@ use mathlib.Core.Logic.{⊎-elim}
 use mathlib.Core.Bool.{Bool, true, false, _&&_}
 use mathlib.Core.List.{List, [], _∷_}
 use Prim.Native.Nat.{ℕ, zero, suc, _+_, _*_, _%_, _^_, _-_, _≤_, _<_, zero-le}
-use native.Mathlib.Nat.{pow-suc, mul-assoc, pow-le-pow-right, le-trans}
+use native.Mathlib.Nat.{pow-suc, mul-assoc, pow-le-pow-right}
 use native.Mathlib.Numerals.{add-one}
 use native.Mathlib.Omega.{arith}
 use lib.ListN.{length, take, drop, getD, length-drop}
@@ -13,7 +13,7 @@ use lib.Seq.{length-take-le, getD-drop}
 use lib.Dec.{leb, ltb, lit<}
 use borrow.Author.Tests.{lt-ltb, le-ltb, le-leb, lt-leb}
 use Rattle.refusal.specs.Numbers.{longVarint, wideVarint, beyondSlice}
-use Rattle.refusal.specs.Paper.{Paper, gives, more, refused, Got, got, pick}
+use Rattle.refusal.specs.Paper.{Paper, gives, more, refused, Got, got}
 use Rattle.refusal.proofs.Cases.{either}
 use Rattle.varint.specs.Varint.{run, number, tenthIsWide, eleventhIsThere, uvarint, uvarintAt, uvarintEnd}
 

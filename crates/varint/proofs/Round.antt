@@ -2,19 +2,19 @@
 use mathlib.Core.Path.{_≡_, refl, sym, ap, ap₂, _∙_}
 use mathlib.Core.Logic.{⊎-elim}
 use mathlib.Core.Bool.{Bool, true, false}
-use mathlib.Core.List.{List, [], _∷_, _++_, append-assoc}
-use Prim.Native.Nat.{ℕ, zero, suc, _+_, _-_, _*_, _/_, _%_, _^_, _≤_, _<_, zero-le}
+use mathlib.Core.List.{List, [], _∷_, _++_}
+use Prim.Native.Nat.{ℕ, zero, suc, _+_, _*_, _/_, _%_, _^_, _≤_, _<_, zero-le}
 use native.Mathlib.Nat.{pow-suc}
 use native.Mathlib.Omega.{arith}
 use lib.ListN.{length, take, drop, getD, length-append, length-drop}
-use lib.Seq.{take-append-seam, drop-at, length-take-le}
-use lib.Dec.{leb, ltb}
-use borrow.Author.Tests.{lt-ltb, le-ltb, le-leb, lt-leb, leb-true, leb-false, ltb-true, ltb-false}
+use lib.Seq.{take-append-seam, length-take-le}
+use lib.Dec.{leb}
+use borrow.Author.Tests.{lt-ltb, le-ltb, le-leb, lt-leb, leb-false, ltb-false}
 use Rattle.refusal.specs.Numbers.{badByte, longVarint, wideVarint, beyondSlice}
-use Rattle.refusal.specs.Paper.{Paper, gives, more, refused, Got, got, pick}
+use Rattle.refusal.specs.Paper.{Paper, more, refused, Got, pick}
 use Rattle.refusal.proofs.Cases.{either}
 use Rattle.varint.specs.Varint.{run, number, tenthIsWide, eleventhIsThere, runsOut, uvarint, uvarintAt}
-use Rattle.varint.specs.Write.{encode, writeAnswer, writeBytes}
+use Rattle.varint.specs.Write.{encode, writeBytes}
 use Rattle.varint.proofs.Read.{giving, run-yes, run-no, no-four, no-four-yet, no-three-yet, number-take, number-lt, sum-lt, at-is}
 use Rattle.varint.proofs.Write.{last, step}
 

@@ -1,16 +1,15 @@
 -- Laws of `encode`. Assumes nothing.
-use mathlib.Core.Path.{_≡_, refl, sym, ap, ap₂, _∙_}
+use mathlib.Core.Path.{_≡_, refl, sym, ap, _∙_}
 use mathlib.Core.Logic.{⊎-elim}
-use mathlib.Core.List.{List, [], _∷_, _++_}
-use Prim.Native.Nat.{ℕ, zero, suc, _+_, _-_, _*_, _/_, _%_, _^_, _≤_, _<_}
+use mathlib.Core.List.{List, [], _∷_}
+use Prim.Native.Nat.{ℕ, zero, suc, _+_, _/_, _%_, _≤_, _<_}
 use native.Mathlib.Nat.{zero-add}
 use native.Mathlib.Omega.{arith}
-use lib.ListN.{length, take, drop, getD, set}
+use lib.ListN.{length}
 use lib.Seq.{sets, sets-eq}
-use lib.Dec.{ltb}
 use borrow.Author.Tests.{lt-ltb, le-ltb}
 use Rattle.refusal.specs.Numbers.{shortOutput}
-use Rattle.refusal.specs.Paper.{Paper, gives, refused, pick}
+use Rattle.refusal.specs.Paper.{gives, refused}
 use Rattle.refusal.proofs.Cases.{either}
 use Rattle.varint.specs.Write.{encodeIn, encode, writeAnswer, writeBytes}
 

@@ -1,6 +1,6 @@
 -- What each answer of this crate means: the paper's number and values.
 use Prim.Native.Nat.{ℕ}
-use mathlib.Core.List.{List, [], _∷_}
+use mathlib.Core.List.{[]}
 use lib.IntN.{ℤ}
 use Rattle.refusal.specs.Numbers.{beyondSlice, shortOutput}
 use Rattle.refusal.specs.Paper.{Paper, gives, more, refused, Got, got}

@@ -1,7 +1,7 @@
 -- Varints, from the Protocol Buffers encoding document: each byte but the last has its top bit set, and the low seven bits of the
 -- bytes, lowest first, are the number. A number has 64 bits, so ten bytes hold it.
-use Prim.Native.Nat.{ℕ, zero, suc, _+_, _*_, _%_}
-use mathlib.Core.Bool.{Bool, true, false, _&&_}
+use Prim.Native.Nat.{ℕ, suc, _+_, _*_, _%_}
+use mathlib.Core.Bool.{Bool, _&&_}
 use mathlib.Core.List.{List, [], _∷_}
 use lib.ListN.{length, take, drop, getD}
 use lib.Dec.{leb, ltb}

@@ -4,7 +4,7 @@ use mathlib.Core.Path.{_≡_, refl, sym, ap, _∙_}
 use mathlib.Core.Bool.{Bool, true, false}
 use mathlib.Core.List.{List, [], _∷_}
 use mathlib.Core.Logic.{_⊎_, inl, inr, ⊎-elim}
-use Prim.Native.Nat.{ℕ, suc, _+_, _-_, _≤_, _<_}
+use Prim.Native.Nat.{ℕ, suc, _+_, _≤_, _<_}
 use native.Mathlib.Omega.{arith}
 use borrow.Author.Tests.{ltb-true, ltb-false, eqb-true, eqb-false}
 use lib.Dec.{ltb, eqb}
@@ -15,7 +15,6 @@ use Rattle.refusal.specs.Paper.{Paper, gives, more, refused, Spot, spot, pick}
 use Rattle.token.specs.Meaning.{kindOf}
 use Rattle.token.specs.declared.Token.{Token}
 use Rattle.token.specs.declared.Token.the-variants.{Boolean, Double}
-use Rattle.token.specs.declared.Kind.{Kind}
 use Rattle.token.specs.declared.Kind.the-variants.{Scalar}
 use Rattle.token.specs.Ends.{endOf}
 use Rattle.words.specs.Word.{Word, words, stands, wordOf, wordAt}

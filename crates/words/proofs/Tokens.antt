@@ -8,15 +8,15 @@ use native.Mathlib.Nat.{eq-or-lt-of-le}
 use mathlib.Core.Logic.{⊎-elim}
 use borrow.Author.Tests.{lt-ltb, le-ltb, eq-eqb, ne-eqb}
 use lib.Dec.{T}
-use lib.Ieee.{Float, nan, ofBits, ofFields, nanBits, binary64, div}
+use lib.Ieee.{ofBits, ofFields, nanBits, binary64, div}
 use lib.ListN.{length, drop}
 use Rattle.refusal.specs.Numbers.{unknownWord, beyondSlice}
 use Rattle.refusal.specs.Paper.{Paper, gives, more, refused, Spot, spot, pick}
 use Rattle.token.specs.declared.Token.{Token}
-use Rattle.token.specs.declared.Token.the-variants.{Boolean, Double}
+use Rattle.token.specs.declared.Token.the-variants.{Boolean}
 use Rattle.token.specs.Ends.{endOf}
-use Rattle.words.specs.Word.{double, Word, words, stands, wordOf, wordAt}
-use Rattle.words.specs.Cases.{wordIn, width, WordAt}
+use Rattle.words.specs.Word.{double, words, stands, wordOf, wordAt}
+use Rattle.words.specs.Cases.{wordIn, WordAt}
 use Rattle.words.specs.declared.Found.{Found}
 use Rattle.words.specs.declared.Found.the-variants.{True, False, Nan, Inf, NegInf, Unknown}
 

@@ -5,8 +5,8 @@ use mathlib.Core.Logic.{⊎-elim}
 use Prim.Native.Nat.{ℕ, suc, _+_, _-_, _*_, _/_, _%_, _^_, _≤_, _<_}
 use native.Mathlib.Nat.{mod-eq-of-lt, eq-zero-or-pos}
 use native.Mathlib.Omega.{arith}
-use lib.Bits.{bitXor, bitAnd, xor-zero-r, xor-add-and, and-mask}
-use lib.IntN.{ℤ, pos, negsuc, negℤ, natAbs, _+ℤ_, _-ℤ_}
+use lib.Bits.{bitXor, xor-zero-r, xor-add-and, and-mask}
+use lib.IntN.{ℤ, pos, negsuc, natAbs, _+ℤ_, _-ℤ_}
 use lib.Dec.{T}
 use mathlib.Core.Bool.{Bool, true, false}
 use lib.Signed.{mag, nonNeg, leZ}

@@ -1,5 +1,5 @@
 -- `binary_token` meets its contract: each arm of the match is a row of the table of markers.
-use mathlib.Core.Path.{_≡_, _∙_, sym, ap}
+use mathlib.Core.Path.{_∙_, sym, ap}
 use native.Mathlib.Omega.{arith}
 use denote.Ref.{now}
 use Rattle.token.proofs.Marks.{mark-inside}

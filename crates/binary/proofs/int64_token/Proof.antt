@@ -1,5 +1,5 @@
 -- `int64_token` meets its contract: the varint's answer, at the token's first byte.
-use mathlib.Core.Path.{_≡_, _∙_, sym, ap}
+use mathlib.Core.Path.{_∙_, sym, ap}
 use Prim.Native.Nat.{_+_}
 use lib.IntN.{ℤ}
 use mir.Syntax.{w64}

@@ -1,6 +1,5 @@
 -- `other_end` meets its contract: a string, or the table of markers.
 use mathlib.Core.Path.{_∙_, sym}
-use native.Mathlib.Omega.{arith}
 use denote.Ref.{now}
 use Rattle.binary_ends.proofs.Ends.{string-is, scalar-at}
 use borrow.Author.Needs.{needs}

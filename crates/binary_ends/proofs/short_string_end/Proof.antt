@@ -1,5 +1,5 @@
 -- `short_string_end` meets its contract: a length of one byte, and 0 for any other.
-use mathlib.Core.Path.{_≡_, _∙_, sym, ap}
+use mathlib.Core.Path.{_∙_, sym, ap}
 use Prim.Native.Nat.{_+_}
 use denote.Ref.{now}
 use Rattle.varint.specs.Signed.{varintAt}

@@ -1,5 +1,5 @@
 -- `string_at_end` meets its contract: a length of one byte, and any other by the varint reader.
-use mathlib.Core.Path.{_≡_, _∙_, sym, ap}
+use mathlib.Core.Path.{_∙_, sym, ap}
 use Prim.Native.Nat.{_+_}
 use denote.Ref.{now}
 use Rattle.varint.specs.Meaning.{uvarintMeaning}

@@ -1,5 +1,5 @@
 -- `told_end` meets its contract: an int64 of one byte, the size that eight bytes tell, or the table of markers.
-use mathlib.Core.Path.{_≡_, _∙_, sym}
+use mathlib.Core.Path.{_∙_, sym}
 use Prim.Native.Nat.{_+_}
 use native.Mathlib.Omega.{arith}
 use denote.Ref.{now}

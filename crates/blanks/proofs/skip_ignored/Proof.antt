@@ -1,14 +1,13 @@
 -- `skip_ignored` meets its contract: in each of its three loops the place that it goes to is the one from the start.
 use mathlib.Core.Path.{_≡_, refl, sym, ap, _∙_}
-use mathlib.Core.Bool.{true, false}
-use Prim.Native.Nat.{ℕ, _≤_, _-_}
+use Prim.Native.Nat.{_≤_, _-_}
 use native.Mathlib.Nat.{le-refl}
 use native.Mathlib.Omega.{arith}
 use borrow.Author.Needs.{needs}
-use lib.ListN.{length, getD}
+use lib.ListN.{length}
 use Rattle.marks.specs.Classes.{isByte}
 use Rattle.search.proofs.Laws.{found-on}
-use Rattle.blanks.specs.Skip.{isBlank, skipFrom}
+use Rattle.blanks.specs.Skip.{skipFrom}
 use Rattle.blanks.proofs.Ways.{blank-space, blank-past, nearer, onward, lineFrom, blockFrom, blanks-more, blanks-end, blanks-stop, blanks-lone, open-line, open-block, open-none, line-end, line-more, line-out, block-end, block-star, block-last, block-more, block-out, line-jump, block-jump}
 use Rattle.blanks.proofs.skip_ignored.Statement.{statement}
 use Rattle.blanks.proofs.skip_ignored.Tie as tie

@@ -1,6 +1,4 @@
 use borrow.Author.Needs.{needs}
-use lib.ListN.{length}
-use mathlib.Core.Path.{_≡_}
 use Rattle.deliveries.proofs.drain.Statement.{statement}
 use Rattle.deliveries.proofs.drain.Tie as tie
 

@@ -1,6 +1,6 @@
 -- `kinds_known` meets its contract. The loop's invariant: the answer for the bytes left is the answer for all.
 use mathlib.Core.Path.{_≡_, refl, sym, _∙_}
-use Prim.Native.Nat.{_-_, _≤_}
+use Prim.Native.Nat.{_≤_}
 use native.Mathlib.Omega.{arith}
 use denote.Ref.{now}
 use Rattle.kept.specs.Kept.{kindsKnown}

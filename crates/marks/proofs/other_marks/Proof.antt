@@ -1,6 +1,5 @@
 -- `other_marks` meets its contract: the masks mark each byte by itself.
 use Rattle.marks.proofs.Masks.{others, othered, low-63}
-use lib.Dec.{lit<}
 use native.Mathlib.Omega.{arith}
 use mathlib.Core.Path.{ap, _∙_}
 use borrow.Author.Needs.{needs}

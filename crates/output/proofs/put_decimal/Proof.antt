@@ -1,5 +1,4 @@
-use mathlib.Core.Path.{_≡_, ap, _∙_}
-use denote.Ref.{now}
+use mathlib.Core.Path.{ap, _∙_}
 use Rattle.output.specs.Put.{put, after}
 use borrow.Author.Needs.{needs}
 use Rattle.output.proofs.put_decimal.Statement.{statement}

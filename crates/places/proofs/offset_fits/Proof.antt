@@ -1,7 +1,6 @@
 -- `offset_fits` meets its contract.
 use mathlib.Core.Path.{sym}
 use borrow.Author.Needs.{needs}
-use Rattle.places.specs.Places.{mostOffset}
 use Rattle.places.proofs.Tests.{offset-not, offset-is}
 use Rattle.places.proofs.offset_fits.Statement.{statement}
 use Rattle.places.proofs.offset_fits.Tie as tie

@@ -1,6 +1,5 @@
 -- `hand_out` meets its contract, by what the run came to.
 use mathlib.Core.Path.{refl, ap}
-use Prim.Native.Nat.{_-_}
 use native.Mathlib.Omega.{arith}
 use Rattle.blocks.specs.Readings.{whatMeaning}
 use borrow.Author.Needs.{needs}

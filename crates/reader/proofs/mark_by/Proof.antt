@@ -1,5 +1,4 @@
 -- `mark_by` meets its contract.
-use Prim.Native.Nat.{_-_}
 use borrow.Author.Tests.{eq-eqb, ne-eqb}
 use Rattle.reader.proofs.mark_by.Statement.{statement}
 use Rattle.reader.proofs.mark_by.Tie as tie

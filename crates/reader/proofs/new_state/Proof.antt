@@ -1,6 +1,5 @@
 -- `new_state` meets its contract.
 use mathlib.Core.Path.{refl}
-use Prim.Native.Nat.{_-_}
 use borrow.Author.Needs.{needs}
 use Rattle.reader.proofs.new_state.Statement.{statement}
 use Rattle.reader.proofs.new_state.Tie as tie

@@ -1,6 +1,5 @@
 -- `open` meets its contract.
 use mathlib.Core.Path.{refl, sym, _∙_}
-use Prim.Native.Nat.{_-_}
 use borrow.Author.Tests.{not-true, not-false}
 use Rattle.reader.specs.Calls.{openOf}
 use borrow.Author.Needs.{needs}

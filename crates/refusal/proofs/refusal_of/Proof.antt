@@ -1,6 +1,6 @@
 -- `refusal_of` meets its contract: each arm knows which number it has.
 use Prim.Native.Nat.{ℕ}
-use mathlib.Core.Path.{_≡_, sym, ap}
+use mathlib.Core.Path.{sym, ap}
 use borrow.Author.Tests.{ne-eqb}
 use Rattle.refusal.specs.Meaning.{namedBy}
 use Rattle.refusal.proofs.refusal_of.Statement.{statement}

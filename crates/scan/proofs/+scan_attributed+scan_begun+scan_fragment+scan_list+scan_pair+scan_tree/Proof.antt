@@ -12,7 +12,7 @@ use Rattle.automaton.specs.Step.{list, value, item, key, equals}
 use Rattle.scan.specs.Post.{blockOf, dueOf}
 use Rattle.scan.proofs.Tokens.{skip-on, skip-here}
 use Rattle.scan.proofs.Arms.{attributes-passed, opens-list, list-ends, item-next, key-next, after-item, after-key, map-ends, map-wrong, attributes-end, attributes-wrong, list-closed}
-use Rattle.scan.proofs.Parts.{Here, stop, whole-on, skipped, ended, mark-wrong, too, into, begun-in, begun-whole, begun-none, pair-tree, pair-none, item-begun, key-pair, key-none, string-run, scalar-run, from-here, block-end, block-next, block-more, block-stop}
+use Rattle.scan.proofs.Parts.{Here, whole-on, skipped, ended, mark-wrong, too, into, begun-in, begun-whole, begun-none, pair-tree, pair-none, item-begun, key-pair, key-none, string-run, scalar-run, from-here, block-end, block-next, block-more, block-stop}
 use Rattle.scan.proofs.Pairs.{pairs-too, pairs-stop, pairs-whole, pairs-then, along-here}
 use borrow.Fn.Kinds.{In}
 use borrow.Fn.PlainCycle.{Measures, is, falls, and}

@@ -1,5 +1,5 @@
 -- `opens_pairs` meets its contract.
-use mathlib.Core.Path.{refl, sym}
+use mathlib.Core.Path.{sym}
 use mathlib.Core.Logic.{inl, inr}
 use Rattle.scan.proofs.Pairs.{apart}
 use Rattle.scan.proofs.opens_pairs.Statement.{statement}

@@ -5,7 +5,6 @@ use mathlib.Core.List.{List}
 use native.Mathlib.Omega.{arith}
 use borrow.Author.Needs.{needs}
 use lib.ListN.{length}
-use Rattle.refusal.specs.Paper.{Paper}
 use Rattle.refusal.specs.Meaning.{numberOf, placeOf}
 use Rattle.refusal.specs.declared.Format.{Format}
 use Rattle.refusal.specs.declared.Refusal.{Refusal}

@@ -1,5 +1,5 @@
 -- `is_edge` meets its contract.
-use mathlib.Core.Path.{ap, refl}
+use mathlib.Core.Path.{ap}
 use mathlib.Core.Bool.{Bool, not, _&&_, _||_}
 use lib.Dec.{leb}
 use Rattle.search.specs.First.{isEdge}

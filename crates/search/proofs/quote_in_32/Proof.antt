@@ -3,11 +3,10 @@ use Rattle.search.proofs.Laws.{again-both, or-none}
 use Rattle.marks.specs.Classes.{isQuote}
 use Rattle.search.specs.First.{firstFrom}
 use borrow.Author.Needs.{needs}
-use lib.ListN.{length, getD}
 use native.Mathlib.Omega.{arith}
 use native.Mathlib.Nat.{add-zero}
-use Prim.Native.Nat.{ℕ, _+_, _-_, _≤_, _<_}
-use mathlib.Core.Path.{_≡_, refl, sym, ap, _∙_}
+use Prim.Native.Nat.{_+_, _-_, _≤_}
+use mathlib.Core.Path.{_≡_}
 use Rattle.search.proofs.quote_in_32.Statement.{statement}
 use Rattle.search.proofs.quote_in_32.Tie as tie
 

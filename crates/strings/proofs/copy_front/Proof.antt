@@ -1,6 +1,6 @@
 -- `copy_front` meets its contract: the first j bytes are copied, and the rest is as it was.
-use mathlib.Core.Path.{_≡_, refl, sym, ap, _∙_}
-use mathlib.Core.List.{List, [], _∷_, _++_, append-assoc}
+use mathlib.Core.Path.{_≡_, refl, ap, _∙_}
+use mathlib.Core.List.{List, _++_, append-assoc}
 use Prim.Native.Nat.{ℕ, suc, _≤_, _<_, _-_, _+_}
 use native.Mathlib.Numerals.{add-one}
 use native.Mathlib.Omega.{arith}

@@ -1,5 +1,5 @@
 -- `plain_token` meets its contract.
-use mathlib.Core.Path.{_≡_, ap}
+use mathlib.Core.Path.{ap}
 use Prim.Native.Nat.{ℕ, _-_}
 use native.Mathlib.Omega.{arith}
 use denote.Ref.{now}

@@ -1,5 +1,5 @@
 -- `text_token` meets its contract: what is ignored is passed, and the rest is the token's first byte.
-use mathlib.Core.Path.{_≡_, _∙_, sym, ap}
+use mathlib.Core.Path.{_∙_, sym, ap}
 use native.Mathlib.Omega.{arith}
 use denote.Ref.{now}
 use Rattle.text.specs.Text.{startedAt}

@@ -1,5 +1,5 @@
 -- `read_uvarint` meets its contract: the bytes passed are read, as proofs/Read.antt says, and the tenth is left to `tenth`.
-use mathlib.Core.Path.{_≡_, _∙_, sym, refl}
+use mathlib.Core.Path.{sym, refl}
 use denote.Ref.{now}
 use Prim.Native.Nat.{_-_, zero-le}
 use native.Mathlib.Omega.{arith}

@@ -1,5 +1,5 @@
 -- `read_varint` meets its contract: it is the unsigned reader's answer, with the number read as zigzag.
-use mathlib.Core.Path.{_≡_, _∙_, sym, ap}
+use mathlib.Core.Path.{_∙_, sym, ap}
 use lib.IntN.{ℤ}
 use mir.Syntax.{w64}
 use mir.ValLaws.{toZ-ofZ}

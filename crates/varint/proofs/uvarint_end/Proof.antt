@@ -1,5 +1,5 @@
 -- `uvarint_end` meets its contract: the reader's walk, without its sum.
-use mathlib.Core.Path.{_≡_, sym, ap}
+use mathlib.Core.Path.{sym, ap}
 use denote.Ref.{now}
 use Prim.Native.Nat.{_-_, zero-le}
 use native.Mathlib.Omega.{arith}

@@ -1,7 +1,6 @@
 -- `word_end` meets its contract: the case of the word fixes its end. Assumes nothing.
-use mathlib.Core.Path.{_≡_, sym, ap, _∙_}
-use mathlib.Core.Logic.{⊎-elim}
-use Prim.Native.Nat.{ℕ, _+_}
+use mathlib.Core.Path.{_≡_, ap, _∙_}
+use Prim.Native.Nat.{_+_}
 use native.Mathlib.Omega.{arith}
 use Rattle.token.specs.Ends.{endOf}
 use Rattle.words.specs.declared.Found.the-variants.{True, False, Nan, Inf, NegInf, Unknown}

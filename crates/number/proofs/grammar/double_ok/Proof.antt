@@ -1,5 +1,4 @@
 -- `double_ok` meets its contract: a double that takes every byte. Assumes nothing.
-use native.Mathlib.Omega.{arith}
 use Rattle.number.proofs.Ends.{double-none, double-whole}
 use borrow.Author.Needs.{needs}
 use Rattle.number.proofs.grammar.double_ok.Statement.{statement}

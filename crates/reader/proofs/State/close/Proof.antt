@@ -1,6 +1,5 @@
 -- `State::close` meets its contract.
 use mathlib.Core.Path.{sym, _∙_, refl}
-use Prim.Native.Nat.{_-_}
 use borrow.Author.Tests.{not-true, not-false}
 use Rattle.reader.specs.Calls.{closeOf}
 use borrow.Author.Needs.{needs}

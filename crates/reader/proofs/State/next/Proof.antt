@@ -6,7 +6,6 @@ use native.Mathlib.Omega.{arith}
 use borrow.Author.Tests.{not-true, not-false}
 use denote.Ref.{now}
 use lib.ListN.{length}
-use lib.Seq.{length-slice}
 use Rattle.blocks.specs.Readings.{Reached, passOf, readFrom, binary, runMeaning}
 use Rattle.blocks.proofs.Laws.{binary-grows, pass-few}
 use Rattle.reader.specs.declared.State.{State}
