@@ -1,5 +1,7 @@
 // The lengths, places and offsets of a stream: 23's test, and those of 28's and 25's that ask numbers alone. Each is a test of
 // specs/Places.antt.
+#![tactic(auto)]
+
 ghost use Rattle.std.specs.Prelude.{◌≡◌};
 ghost use Rattle.places.specs.Places.{is_buffer, places_fit, offset_fits};
 

@@ -1,6 +1,8 @@
 // The refusals: what a caller may be told instead of an answer, and the number that document 01 gives each.
 // specs/Numbers.antt has that table in the logic and specs/Meaning.antt gives each case its number and its values; the constants
 // below are the same table in code, and no other file of the repository writes such a number as a literal.
+#![tactic(auto)]
+
 ghost use Rattle.std.specs.Prelude.{◌≡◌};
 ghost use Rattle.refusal.specs.Meaning.{number_of, place_of, moved_to, named_by, call_number_of};
 

@@ -1,4 +1,6 @@
 // Eight bytes as one number, and the lowest mark in such a number. specs/Word.antt says what the number is.
+#![tactic(auto)]
+
 ghost use Rattle.std.specs.Prelude.{◌≡◌, ◌+◌, ◌*◌, ◌/◌, ◌≤◌, ◌<◌, length};
 ghost use Rattle.std.specs.Int.Count.{count_trailing_zeros};
 ghost use Rattle.word.specs.Word.{word_at};

@@ -1,5 +1,7 @@
 // Signed numbers as numbers of 64 bits, and back: zigzag, and two's complement. specs/Zigzag.antt says what they are, zigzag from the
 // Protocol Buffers encoding document.
+#![tactic(auto)]
+
 ghost use Rattle.std.specs.Prelude.{◌≡◌};
 ghost use Rattle.std.specs.Int.Signed.{mag};
 ghost use Rattle.zigzag.specs.Zigzag.{signed, twos, zigzag};
