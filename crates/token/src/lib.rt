@@ -1,5 +1,7 @@
 // Tokens: the smallest parts of YSON that mean something, and what reading one at a place answers.
 // The cases are those of the Rust's `Token`; where that holds bytes, these hold the place and the length of the bytes in the input.
+#![tactic(auto)]
+
 ghost use Rattle.std.specs.Prelude.{◌≡◌};
 ghost use Rattle.token.specs.Meaning.{read_meaning, kind_of, extent_of};
 ghost use Rattle.token.specs.Marks.{mark_of, mark_at};
