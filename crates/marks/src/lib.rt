@@ -1,5 +1,7 @@
 // Eight bytes at once: a mark for each that is of a kind. specs/Classes.antt says what the kinds are, specs/Word.antt of crate `word` how
 // a number marks its bytes.
+#![tactic(auto)]
+
 ghost use Rattle.std.specs.Prelude.{◌≡◌, ◌+◌};
 ghost use Rattle.std.specs.Int.Bits.{bit_and, bit_or};
 ghost use Rattle.word.specs.Word.{marks_at};
