@@ -1,5 +1,7 @@
 // Fast searches in bytes: the first place from a place on with a byte of a kind, or the end. specs/First.antt says what that is, byte by
 // byte. Here eight bytes are looked at by their marks, which crate `marks` makes, and long runs are passed by blocks of 32 bytes.
+#![tactic(auto)]
+
 ghost use Rattle.std.specs.Prelude.{◌≡◌, ◌+◌, ◌≤◌, ◌<◌, length};
 ghost use Rattle.marks.specs.Classes.{is_byte, is_quote, is_other};
 ghost use Rattle.search.specs.First.{first_from, Before, is_joint, is_edge};

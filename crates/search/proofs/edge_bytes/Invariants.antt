@@ -1,0 +1,12 @@
+-- `edge_bytes` meets its contract: from each place that it passes, the place found is the same.
+use Rattle.search.specs.First.{first_from, is_edge}
+use lib.ListN.{length}
+use Prim.Native.Nat.{◌-◌}
+use mathlib.Core.Path.{◌≡◌}
+use Rattle.search.proofs.edge_bytes.Given as goal
+
+abbrev pub invariant-loop-p : goal.invariant-loop-p
+invariant-loop-p l = first_from is_edge l.s l.p ≡ first_from is_edge l.s l.at
+
+abbrev pub decreases-loop-p : goal.decreases-loop-p
+decreases-loop-p l = length l.s - l.p

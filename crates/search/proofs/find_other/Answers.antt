@@ -1,0 +1,13 @@
+-- `find_other` meets its contract: a word without a mark is passed, and the lowest mark is the place found.
+use Rattle.search.proofs.Marks.{word_none, word_some}
+use Rattle.marks.specs.Classes.{is_other}
+use borrow.Author.Rules.{rules}
+use native.Mathlib.Omega.{arith}
+use mathlib.Core.Path.{◌∙◌}
+use Rattle.search.proofs.find_other.Goals as goal
+
+pub returns-then-m-ne0 : goal.returns-then-m-ne0
+returns-then-m-ne0 c = word_some is_other _ _ _ (omega arith) c.other_marks-m.ensures (λ z. omega arith) _ c.low_mark.ensures.0 ∙ c.loop-p.invariant.1
+
+pub loop-p-preserved : goal.loop-p-preserved
+loop-p-preserved c = (search rules, word_none is_other _ _ _ (omega arith) c.other_marks-m.ensures (omega arith) ∙ c.loop-p.invariant.1)

@@ -1,0 +1,13 @@
+-- `find_other` meets its contract: a word without a mark is passed, and the lowest mark is the place found.
+use Rattle.marks.specs.Classes.{is_other}
+use Rattle.search.specs.First.{first_from}
+use lib.ListN.{length}
+use Prim.Native.Nat.{◌+◌, ◌-◌, ◌≤◌}
+use mathlib.Core.Path.{◌≡◌}
+use Rattle.search.proofs.find_other.Given as goal
+
+abbrev pub invariant-loop-p : goal.invariant-loop-p
+invariant-loop-p l = (l.last + 8 ≤ length l.s) × (first_from is_other l.s l.p ≡ first_from is_other l.s l.at)
+
+abbrev pub decreases-loop-p : goal.decreases-loop-p
+decreases-loop-p l = length l.s - l.p

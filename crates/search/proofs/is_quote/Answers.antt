@@ -1,0 +1,8 @@
+-- `is_quote` meets its contract.
+use mathlib.Core.Path.{refl}
+use Rattle.marks.specs.Classes.{is_quote}
+use Rattle.search.proofs.is_quote.Goals as goal
+
+pub returns : goal.returns
+unfolding is_quote
+returns c = refl
