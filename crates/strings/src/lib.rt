@@ -1,5 +1,7 @@
 // The bytes of a string that stand in the input as they are: handed out into lent output, or not at all.
 // What is answered and what the output then holds is `bytes_answer` and `bytes_written` of crate token.
+#![tactic(auto)]
+
 ghost use Rattle.std.specs.Prelude.{◌≡◌, ◌++◌, ◌+◌, ◌≤◌, length, drop};
 ghost use Rattle.token.specs.Meaning.{read_meaning};
 ghost use Rattle.token.specs.declared.Extent.TheVariants.{Plain};

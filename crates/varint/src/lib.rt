@@ -1,6 +1,8 @@
 // Varints, read and written: where does the number end that starts here, and what is it?
 // The definitions are `uvarint_at` and `varint_at` (specs/Varint.antt, specs/Signed.antt) for reading and `encode` (specs/Write.antt)
 // for writing, from the Protocol Buffers encoding document.
+#![tactic(auto)]
+
 ghost use Rattle.std.specs.Prelude.{◌≡◌, ◌≤◌, length, take, drop};
 ghost use Rattle.varint.specs.Varint.{run, number, uvarint_at, uvarint_end};
 ghost use Rattle.zigzag.specs.Zigzag.{zigzag};
