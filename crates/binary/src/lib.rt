@@ -1,5 +1,7 @@
 // Binary tokens: what stands at this place?
 // The definition is `binary_from` (specs/Binary.antt), the table of markers of document 01.
+#![tactic(auto)]
+
 ghost use Rattle.std.specs.Prelude.{◌≡◌, ◌+◌, ◌≤◌, ◌<◌, length};
 ghost use Rattle.std.specs.Float.Ieee as Ieee;
 ghost use Rattle.std.specs.Float.{binary64};

@@ -1,5 +1,7 @@
 // The open blocks of a record as a state keeps them between pieces, one byte for each, and whether they can be open behind so many
 // bytes: refusal 28's tests of them. specs/Kept.antt says what the bytes mean.
+#![tactic(auto)]
+
 ghost use Rattle.std.specs.Prelude.{◌≡◌, ◌≤◌};
 ghost use Rattle.automaton.specs.Limit.{most_open};
 ghost use Rattle.kept.specs.Kept.{due_of, open_in, no_blocks, kinds_known, takes, blocks_fit};
