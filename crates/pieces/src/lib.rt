@@ -1,5 +1,7 @@
 // Which bytes do the pieces of a quoted string give: what is an escape, and how many bytes come before the closing quote?
 // specs/Pieces.antt decides both, and specs/Answers.antt says what each answer means.
+#![tactic(auto)]
+
 ghost use Rattle.std.specs.Prelude.{◌≡◌, ◌<◌, ◌≤◌, drop};
 ghost use Rattle.pieces.specs.Bytes.{hex_digit, octal_digit};
 ghost use Rattle.pieces.specs.Pieces.{hex_of, third_of, octal_of, escape_of, walk};

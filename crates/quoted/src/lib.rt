@@ -1,6 +1,8 @@
 // Which quoted string has its opening quote at a place, and where does it end?
 // specs/Quoted.antt decides, over the pieces of crate pieces. `quoted_end` walks a string once, and by crate search over the bytes between
 // escapes; the private functions answer in one number, which specs/Inside.antt reads.
+#![tactic(auto)]
+
 ghost use Rattle.std.specs.Prelude.{◌≡◌, ◌+◌, ◌<◌, drop};
 ghost use Rattle.token.specs.Meaning.{read_meaning};
 ghost use Rattle.token.specs.Ends.{end_of};
