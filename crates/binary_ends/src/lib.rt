@@ -1,5 +1,7 @@
 // Where a binary token ends, for callers that do not ask for its value.
 // The definitions are the ends of `binary_from` (specs/Binary.antt of crate `binary`), and `short_string_end` (specs/Short.antt).
+#![tactic(auto)]
+
 ghost use Rattle.std.specs.Prelude.{◌≡◌, ◌+◌, ◌/◌, ◌%◌, ◌≤◌, ◌<◌, length, get_or};
 ghost use Rattle.std.specs.Int.Bits.{bit_and, bit_xor};
 ghost use Rattle.zigzag.specs.Zigzag.{signed};
