@@ -1,5 +1,7 @@
 // What bytes has the quoted string at a place, once its escapes are undone?
 // `quoted_string_at` of crate quoted decides, and `bytes_answer` and `bytes_written` of crate token say what is answered and written.
+#![tactic(auto)]
+
 ghost use Rattle.std.specs.Prelude.{◌≡◌, length, drop};
 ghost use Rattle.token.specs.Strings.{unescaped_meaning, bytes_answer, bytes_written};
 ghost use Rattle.pieces.specs.Pieces.{closed, walk};
