@@ -1,5 +1,7 @@
 // Where does text go on after blanks and comments? `skip_ignored` answers that, and specs/Skip.antt decides it. The end of a comment is
 // looked for by crate search.
+#![tactic(auto)]
+
 ghost use Rattle.std.specs.Prelude.{◌≡◌};
 ghost use Rattle.blanks.specs.Skip.{is_blank, skip_from};
 
