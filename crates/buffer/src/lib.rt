@@ -1,5 +1,7 @@
 // What stands in a lent buffer: the separators that some bytes start with, a record's bytes, and the bytes after a piece is taken.
 // specs/Buffer.antt says which these are, for all places and lengths.
+#![tactic(auto)]
+
 ghost use Rattle.std.specs.Prelude.{◌≡◌, ◌+◌, ◌-◌, ◌≤◌, min, length};
 ghost use Rattle.std.proofs.Math.Seq.{slice, paste};
 ghost use Rattle.buffer.specs.Buffer.{is_separator, separators, taken_behind, refilled, record_of};
