@@ -1,6 +1,8 @@
 // Number text in a text stream: which token stands at a place, and where it ends. specs/Number.antt decides; specs/Grammar.antt has
 // the grammar of each kind. `number_token` reads the text of a number and then judges it as a whole. `number_end` goes over it once and
 // makes no value; where that does not settle it, it asks `number_token`.
+#![tactic(auto)]
+
 mod grammar;
 
 ghost use Rattle.std.specs.Prelude.{◌≡◌, true, ◌^◌, ◌<◌, ◌≤◌, drop, pos, neg_ℤ};
