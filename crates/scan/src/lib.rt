@@ -87,7 +87,7 @@ fn why(
 }
 
 // A value: at most one attribute block, and then a scalar, a list or a map.
-#[cycle(scan_attributed_scan_begun_scan_fragment_scan_list_scan_pair_scan_tree)]
+#[cycle(values)]
 fn scan_tree(
     input: &[u8],
     at: usize,
@@ -137,7 +137,7 @@ fn second_attributes(b: u8, passed: bool) -> bool
 }
 
 // The value whose first token stands at `p`; where `passed`, behind its attributes.
-#[cycle(scan_attributed_scan_begun_scan_fragment_scan_list_scan_pair_scan_tree)]
+#[cycle(values)]
 fn scan_begun(
     input: &[u8],
     p: usize,
@@ -191,7 +191,7 @@ fn scan_begun(
 }
 
 // The value behind an attribute block, whose first token stands at `p`.
-#[cycle(scan_attributed_scan_begun_scan_fragment_scan_list_scan_pair_scan_tree)]
+#[cycle(values)]
 fn scan_attributed(
     input: &[u8],
     p: usize,
@@ -207,7 +207,7 @@ fn scan_attributed(
 }
 
 // The rest of a list, up to and with its `]`.
-#[cycle(scan_attributed_scan_begun_scan_fragment_scan_list_scan_pair_scan_tree)]
+#[cycle(values)]
 fn scan_list(
     input: &[u8],
     from: usize,
@@ -353,7 +353,7 @@ fn past_pairs(input: &[u8], at: usize, format: Format) -> usize
 }
 
 // The rest of a map, up to and with its `}`, or of an attribute block, to its `>`.
-#[cycle(scan_attributed_scan_begun_scan_fragment_scan_list_scan_pair_scan_tree)]
+#[cycle(values)]
 fn scan_fragment(
     input: &[u8],
     from: usize,
@@ -404,7 +404,7 @@ fn scan_fragment(
 }
 
 // What stands behind a key: `=` and a value.
-#[cycle(scan_attributed_scan_begun_scan_fragment_scan_list_scan_pair_scan_tree)]
+#[cycle(values)]
 fn scan_pair(
     input: &[u8],
     at: usize,
