@@ -1,5 +1,7 @@
 // Words after `%`, and unquoted strings, in a text stream. specs/Word.antt says which word is which token, and specs/Plain.antt how far an
 // unquoted string runs. A word is told by its first byte.
+#![tactic(auto)]
+
 ghost use Rattle.std.specs.Prelude.{◌≡◌, [], ◌∷◌, ◌+◌, ◌≤◌, length, drop};
 ghost use Rattle.token.specs.Meaning.{read_meaning};
 ghost use Rattle.token.specs.Ends.{end_of};
