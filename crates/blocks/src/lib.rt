@@ -16,7 +16,7 @@ use refusal::Refusal;
 use token::Read;
 
 // What a token does to the open blocks.
-#[derive(Drop)]
+#[derive(Clone, Copy)]
 pub enum Move {
     // It opens a block of this kind.
     OpenList,
@@ -42,7 +42,7 @@ pub enum Move {
 }
 
 // Where a run over tokens comes to.
-#[derive(Drop)]
+#[derive(Clone, Copy)]
 pub enum What {
     // The record is whole, and ends here.
     Whole(usize),
@@ -53,7 +53,7 @@ pub enum What {
 }
 
 // A run over tokens: the end of the last that was passed, how many readings were made, where it came to, and the open blocks there.
-#[derive(Drop)]
+#[derive(Clone, Copy)]
 pub struct Run {
     pub place: usize,
     pub readings: usize,
@@ -62,14 +62,14 @@ pub struct Run {
 }
 
 // How many blocks are open, and what is due in the innermost.
-#[derive(Drop)]
+#[derive(Clone, Copy)]
 pub struct Inner {
     pub depth: usize,
     pub due: Due,
 }
 
 // Why a run over tokens stops.
-#[derive(Drop)]
+#[derive(Clone, Copy)]
 pub enum Stop {
     // The bytes ended.
     Ended,
@@ -85,7 +85,7 @@ pub enum Stop {
 
 // Where a run over tokens stops: the end of the last that was passed, that of the last that was read, how many readings were made,
 // how many blocks are open and what is due there, and why it stops.
-#[derive(Drop)]
+#[derive(Clone, Copy)]
 pub struct Halt {
     pub place: usize,
     pub end: usize,

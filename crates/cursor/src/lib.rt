@@ -10,7 +10,7 @@ ghost use Rattle.cursor.specs.Cursor.{peek_meaning, byte_at};
 use refusal::Format;
 use token::{Read, Unescaped};
 
-#[derive(Drop)]
+#[derive(Clone, Copy)]
 pub struct YsonIterator<'a> {
     pub input: &'a [u8],
     pub pos: usize,
@@ -18,7 +18,7 @@ pub struct YsonIterator<'a> {
 }
 
 // What looking at the next byte answers.
-#[derive(Drop)]
+#[derive(Clone, Copy)]
 pub enum Peek {
     // The byte behind blanks and comments, and its place.
     Byte { byte: u8, place: usize },

@@ -17,7 +17,7 @@ pub const MAP: u8 = 2;
 pub const ATTRIBUTES: u8 = 3;
 
 // The part that is due.
-#[derive(Drop)]
+#[derive(Clone, Copy)]
 pub enum Due {
     // A value, with attributes or without.
     Value,
@@ -32,7 +32,7 @@ pub enum Due {
 }
 
 // The open blocks: how many, what is due in the innermost, and a byte for the kind of each, the outermost first.
-#[derive(Drop)]
+#[derive(Clone, Copy)]
 pub struct Blocks {
     pub depth: usize,
     pub due: Due,

@@ -12,7 +12,7 @@ use refusal::{Format, Refusal};
 use token::{Read, Unescaped};
 
 // How many tokens stand in some bytes.
-#[derive(Drop)]
+#[derive(Clone, Copy)]
 pub enum Count {
     // So many, the last of which ends at `end`. Behind it the bytes end, or end inside a token.
     Tokens {

@@ -19,7 +19,7 @@ use refusal::Refusal;
 use token::{Read, Token};
 
 // The number that digits write.
-#[derive(Drop)]
+#[derive(Clone, Copy)]
 enum Magnitude {
     Value(u64),
     // No digit, a byte that is none, or a number above the limit.

@@ -8,7 +8,7 @@ ghost use Rattle.pieces.specs.Pieces.{hex_of, third_of, octal_of, escape_of, wal
 ghost use Rattle.pieces.specs.Answers.{piece_meaning, measure_of};
 
 // The escape behind a backslash.
-#[derive(Drop)]
+#[derive(Clone, Copy)]
 pub enum Escaped {
     // Its byte, and how many input bytes it takes, the backslash among them.
     Byte { byte: u8, size: usize },
@@ -19,7 +19,7 @@ pub enum Escaped {
 }
 
 // How many bytes the pieces of a quoted string give.
-#[derive(Drop)]
+#[derive(Clone, Copy)]
 pub enum Measured {
     // So many, up to the closing quote.
     Closed { count: usize },

@@ -16,7 +16,7 @@ pub use buffer::record;
 
 // Where a stream stands between calls. `offset` is the stream offset of the byte at `start`, the first that is neither handed out
 // nor skipped; `place` is the end of the last token passed, and `filled` that of the bytes taken.
-#[derive(Drop)]
+#[derive(Clone, Copy)]
 pub struct State {
     pub len: usize,
     pub offset: u64,
@@ -28,7 +28,7 @@ pub struct State {
 }
 
 // What opening answers.
-#[derive(Drop)]
+#[derive(Clone, Copy)]
 pub enum Opening {
     // The stream is open.
     Ready,
@@ -36,14 +36,14 @@ pub enum Opening {
     BufferLength,
 }
 
-#[derive(Drop)]
+#[derive(Clone, Copy)]
 pub struct Opened {
     pub answer: Opening,
     pub state: State,
 }
 
 // What offering a piece answers.
-#[derive(Drop)]
+#[derive(Clone, Copy)]
 pub enum Taking {
     // So many bytes of the piece were taken.
     Taken { count: usize },
@@ -55,14 +55,14 @@ pub enum Taking {
     OffsetTooHigh,
 }
 
-#[derive(Drop)]
+#[derive(Clone, Copy)]
 pub struct Offered {
     pub answer: Taking,
     pub state: State,
 }
 
 // What closing answers.
-#[derive(Drop)]
+#[derive(Clone, Copy)]
 pub enum Closing {
     // No piece follows.
     Done,
@@ -70,21 +70,21 @@ pub enum Closing {
     StrangeState,
 }
 
-#[derive(Drop)]
+#[derive(Clone, Copy)]
 pub struct Closed {
     pub answer: Closing,
     pub state: State,
 }
 
 // A record's mark.
-#[derive(Drop)]
+#[derive(Clone, Copy)]
 pub enum Mark {
     Row,
     Control,
 }
 
 // What next answers.
-#[derive(Drop)]
+#[derive(Clone, Copy)]
 pub enum Found {
     // A record, by its place and length in the buffer and its stream offset.
     Record {
@@ -116,7 +116,7 @@ pub enum Found {
     StrangeState,
 }
 
-#[derive(Drop)]
+#[derive(Clone, Copy)]
 pub struct Next {
     pub answer: Found,
     pub readings: usize,

@@ -7,7 +7,7 @@ ghost use Rattle.std.specs.Prelude.{◌≡◌};
 ghost use Rattle.refusal.specs.Meaning.{number_of, place_of, moved_to, named_by, call_number_of};
 
 // The two ways YSON is written.
-#[derive(Drop)]
+#[derive(Clone, Copy)]
 pub enum Format {
     Binary,
     Text,
@@ -62,7 +62,7 @@ pub const STRANGE_STATE: usize = 28;
 pub const BAD_CALL: usize = 29;
 
 // What is wrong with the bytes themselves, and where.
-#[derive(Drop)]
+#[derive(Clone, Copy)]
 pub enum Refusal {
     // 1: a byte that starts no token.
     BadByte { place: usize },
@@ -165,7 +165,7 @@ pub fn refusal_of(number: usize, place: usize) -> Refusal
 }
 
 // Why a call is refused whose bytes may be well: each answer enum has these as cases of its own, with the values that it carries.
-#[derive(Drop)]
+#[derive(Clone, Copy)]
 pub enum Cause {
     // 14: string bytes are wanted and the token is no string.
     NotString,

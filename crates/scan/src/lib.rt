@@ -18,7 +18,7 @@ use token::Read;
 const MOST_OPEN: usize = 128;
 
 // What the scan for one value answers.
-#[derive(Drop)]
+#[derive(Clone, Copy)]
 pub enum Scan {
     // A whole value, with what is ignored before it, takes the first `len` bytes.
     Complete { len: usize },

@@ -8,7 +8,7 @@ ghost use Rattle.token.specs.Marks.{mark_of, mark_at};
 
 use refusal::Refusal;
 
-#[derive(Drop)]
+#[derive(Clone, Copy)]
 pub enum Token {
     // `<`
     BeginAttributes,
@@ -42,7 +42,7 @@ pub enum Token {
 }
 
 // What a token is to the scan, which asks for no value.
-#[derive(Drop)]
+#[derive(Clone, Copy)]
 pub enum Kind {
     Text,
     Scalar,
@@ -57,7 +57,7 @@ pub enum Kind {
 }
 
 // Where the bytes of a string stand.
-#[derive(Drop)]
+#[derive(Clone, Copy)]
 pub enum Extent {
     // They are the input's own.
     Plain { start: usize, len: usize },
@@ -118,7 +118,7 @@ impl Token {
 }
 
 // Whether a byte is a token by itself, in both formats alike.
-#[derive(Drop)]
+#[derive(Clone, Copy)]
 pub enum Mark {
     Is { token: Token },
     Not,
@@ -161,7 +161,7 @@ fn mark_of(b: u8) -> Mark
 }
 
 // What reading a token at a place answers.
-#[derive(Drop)]
+#[derive(Clone, Copy)]
 pub enum Read {
     // A token, the place of its first byte (behind blanks and comments), and the place after its last.
     Token {
@@ -202,7 +202,7 @@ pub fn mark_at(input: &[u8], at: usize) -> Read
 }
 
 // What asking for a string's bytes answers. Only `Bytes` writes: every other answer leaves the output as it was.
-#[derive(Drop)]
+#[derive(Clone, Copy)]
 pub enum Unescaped {
     // So many bytes were written at the front of the output, and the place after the string's token.
     Bytes { count: usize, next: usize },

@@ -13,7 +13,7 @@ ghost use Rattle.varint.specs.Meaning.{uvarint_meaning, varint_meaning, written_
 use refusal::Refusal;
 
 // What reading an unsigned varint at a place answers.
-#[derive(Drop)]
+#[derive(Clone, Copy)]
 pub enum Uvarint {
     // The number, and the place after its last byte.
     Value { value: u64, next: usize },
@@ -26,7 +26,7 @@ pub enum Uvarint {
 }
 
 // What reading a signed varint at a place answers: the same cases.
-#[derive(Drop)]
+#[derive(Clone, Copy)]
 pub enum Varint {
     Value { value: i64, next: usize },
     More,
@@ -35,7 +35,7 @@ pub enum Varint {
 }
 
 // What writing a varint answers.
-#[derive(Drop)]
+#[derive(Clone, Copy)]
 pub enum Written {
     // So many bytes were written at the front of the output.
     Bytes { count: usize },

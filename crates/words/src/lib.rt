@@ -13,7 +13,7 @@ use refusal::Refusal;
 use token::{Read, Token};
 
 // The word that stands at a place.
-#[derive(Drop)]
+#[derive(Clone, Copy)]
 enum Found {
     True,
     False,
