@@ -3,13 +3,14 @@
 // The pieces are read one after another, so that a frame may be longer than any buffer.
 ghost use Rattle.std.specs.Prelude.{◌+◌, ◌-◌, ◌≤◌, length};
 
-use crate::{Go, read, text};
+use crate::{Console, Go, read, text};
 use reader::{Found, Mark, Opened, Opening, State, Taking};
 use refusal::Refusal;
+use std::io::{Stdin, Stdout};
 
 // A stream under way: its state, how much of the output is filled, whether a part of the line is written out, the readings, the calls
 // of next that handed out no record and left a buffered byte unpassed, and whether a piece is still to be offered.
-#[derive(Drop)]
+#[derive(Clone, Copy)]
 struct Frame {
     state: State,
     filled: usize,
@@ -97,7 +98,7 @@ fn spilt(n: usize, filled: usize, before: bool) -> bool {
 }
 
 // Next, until it wants more or stops.
-fn drain(buf: &[u8], out: &mut [u8], f: Frame) -> Frame {
+fn drain(stdout: Stdout, buf: &[u8], out: &mut [u8], f: Frame) -> Frame {
     let mut state = f.state;
     let mut filled = f.filled;
     let mut spilled = f.spilled;
@@ -106,7 +107,7 @@ fn drain(buf: &[u8], out: &mut [u8], f: Frame) -> Frame {
     let mut turns = u64::MAX;
     while turns > 0 {
         turns -= 1;
-        let n = text::spare(out, filled);
+        let n = text::spare(stdout, out, filled);
         spilled = spilt(n, filled, spilled);
         let t = state.next(buf);
         state = t.state;
@@ -135,7 +136,7 @@ fn drain(buf: &[u8], out: &mut [u8], f: Frame) -> Frame {
 }
 
 // Up to where a piece is taken, or by which number it was refused.
-#[derive(Drop)]
+#[derive(Clone, Copy)]
 struct Part {
     state: State,
     to: usize,
@@ -220,14 +221,21 @@ fn refused(out: &mut [u8], f: Frame, number: usize) -> Frame {
 }
 
 // A stream behind an offer, and how much of the piece is taken.
-#[derive(Drop)]
+#[derive(Clone, Copy)]
 struct Offer {
     frame: Frame,
     from: usize,
 }
 
 // What is left of a piece from `from` on, offered, and next after it.
-fn offer_rest(buf: &mut [u8], out: &mut [u8], piece: &[u8], from: usize, f: Frame) -> Offer
+fn offer_rest(
+    stdout: Stdout,
+    buf: &mut [u8],
+    out: &mut [u8],
+    piece: &[u8],
+    from: usize,
+    f: Frame,
+) -> Offer
     requires { from ≤ length piece.now }
     ensures { (from ≤ result.from) × (result.from ≤ length piece.now) }
 {
@@ -241,7 +249,7 @@ fn offer_rest(buf: &mut [u8], out: &mut [u8], piece: &[u8], from: usize, f: Fram
         return Offer { frame, from };
     }
     let taken = with_state(f, state);
-    let frame = drain(buf, out, taken);
+    let frame = drain(stdout, buf, out, taken);
     Offer { frame, from: to }
 }
 
@@ -251,15 +259,15 @@ fn wants_more(f: Frame) -> bool {
 }
 
 // One piece, offered at least once and until it is taken or next stops.
-fn feed(buf: &mut [u8], out: &mut [u8], piece: &[u8], f: Frame) -> Frame {
-    let first = offer_rest(buf, out, piece, 0, f);
+fn feed(stdout: Stdout, buf: &mut [u8], out: &mut [u8], piece: &[u8], f: Frame) -> Frame {
+    let first = offer_rest(stdout, buf, out, piece, 0, f);
     let mut g = first.frame;
     let mut from = first.from;
     while from < piece.len() {
         if !wants_more(g) {
             return g;
         }
-        let o = offer_rest(buf, out, piece, from, g);
+        let o = offer_rest(stdout, buf, out, piece, from, g);
         let to = o.from;
         g = o.frame;
         if to == from {
@@ -271,7 +279,7 @@ fn feed(buf: &mut [u8], out: &mut [u8], piece: &[u8], f: Frame) -> Frame {
 }
 
 // What follows in a frame's payload.
-#[derive(Drop)]
+#[derive(Clone, Copy)]
 enum Ahead {
     // A piece of so many bytes, which are read.
     Piece(usize),
@@ -282,52 +290,59 @@ enum Ahead {
 }
 
 // Bytes that are no piece are passed over.
-fn uneven(left: u64, chunk: &mut [u8]) -> Ahead {
-    if read::skip(left, chunk) {
+fn uneven(stdin: Stdin, left: u64, chunk: &mut [u8]) -> Ahead {
+    if read::skip(stdin, left, chunk) {
         return Ahead::Uneven;
     }
     Ahead::Cut
 }
 
 // The next piece of a payload of which so many bytes are left.
-fn next_piece(left: u64, chunk: &mut [u8]) -> Ahead {
+fn next_piece(stdin: Stdin, left: u64, chunk: &mut [u8]) -> Ahead {
     if left < 2 {
-        return uneven(left, chunk);
+        return uneven(stdin, left, chunk);
     }
-    if !read::fill(chunk, 2) {
+    if !read::fill(stdin, chunk, 2) {
         return Ahead::Cut;
     }
     let count = read::little2(chunk, 0);
     let rest = left - 2;
     if rest < count as u64 {
-        return uneven(rest, chunk);
+        return uneven(stdin, rest, chunk);
     }
-    if !read::fill(chunk, count) {
+    if !read::fill(stdin, chunk, count) {
         return Ahead::Cut;
     }
     Ahead::Piece(count)
 }
 
 // A piece that was read, unless next has stopped.
-fn fed(buf: &mut [u8], out: &mut [u8], chunk: &[u8], count: usize, f: Frame) -> Frame {
+fn fed(
+    stdout: Stdout,
+    buf: &mut [u8],
+    out: &mut [u8],
+    chunk: &[u8],
+    count: usize,
+    f: Frame,
+) -> Frame {
     if !f.on {
         return f;
     }
     if chunk.len() < count {
         return f;
     }
-    feed(buf, out, &chunk[..count], f)
+    feed(stdout, buf, out, &chunk[..count], f)
 }
 
 // How a payload ends.
-#[derive(Drop)]
+#[derive(Clone, Copy)]
 enum Rest {
     Even,
     Uneven,
     Cut,
 }
 
-#[derive(Drop)]
+#[derive(Clone, Copy)]
 struct Streamed {
     frame: Frame,
     rest: Rest,
@@ -344,16 +359,23 @@ fn less(a: u64, b: u64) -> u64
 }
 
 // All pieces of a payload of so many bytes.
-fn pieces(whole: u64, chunk: &mut [u8], buf: &mut [u8], out: &mut [u8], f: Frame) -> Streamed {
+fn pieces(
+    console: Console,
+    whole: u64,
+    chunk: &mut [u8],
+    buf: &mut [u8],
+    out: &mut [u8],
+    f: Frame,
+) -> Streamed {
     let mut g = f;
     let mut left = whole;
     while 0 < left {
-        let next = next_piece(left, chunk);
+        let next = next_piece(console.stdin, left, chunk);
         match next {
             Ahead::Piece(count) => {
                 let size = count as u64;
                 left = less(less(left, 2), size);
-                g = fed(buf, out, chunk, count, g);
+                g = fed(console.stdout, buf, out, chunk, count, g);
             }
             Ahead::Uneven => {
                 return Streamed {
@@ -376,7 +398,7 @@ fn pieces(whole: u64, chunk: &mut [u8], buf: &mut [u8], out: &mut [u8], f: Frame
 }
 
 // After the last piece the stream is closed, unless next has stopped.
-fn closed(buf: &[u8], out: &mut [u8], f: Frame) -> Frame {
+fn closed(stdout: Stdout, buf: &[u8], out: &mut [u8], f: Frame) -> Frame {
     if !f.on {
         return f;
     }
@@ -384,7 +406,7 @@ fn closed(buf: &[u8], out: &mut [u8], f: Frame) -> Frame {
     let t = state.close(buf);
     let shut = t.state;
     let g = with_state(f, shut);
-    drain(buf, out, g)
+    drain(stdout, buf, out, g)
 }
 
 // ` readings R nexts K`
@@ -397,9 +419,9 @@ fn put_counts(out: &mut [u8], n: usize, f: Frame) -> usize {
 }
 
 // A word in place of the line, or behind what is written out of it.
-fn put_instead(out: &mut [u8], f: Frame, word: &[u8]) -> usize {
+fn put_instead(stdout: Stdout, out: &mut [u8], f: Frame, word: &[u8]) -> usize {
     if f.spilled {
-        let n = text::spare(out, f.filled);
+        let n = text::spare(stdout, out, f.filled);
         let a = text::put_newline(out, n);
         return output::put_word(out, a, word);
     }
@@ -407,22 +429,22 @@ fn put_instead(out: &mut [u8], f: Frame, word: &[u8]) -> usize {
 }
 
 // The line's end, once the whole payload is read.
-fn ended(buf: &[u8], out: &mut [u8], s: Streamed) -> Go {
+fn ended(stdout: Stdout, buf: &[u8], out: &mut [u8], s: Streamed) -> Go {
     let f = s.frame;
     let rest = s.rest;
     match rest {
         Rest::Even => {
-            let g = closed(buf, out, f);
-            let n = text::spare(out, g.filled);
+            let g = closed(stdout, buf, out, f);
+            let n = text::spare(stdout, out, g.filled);
             let filled = put_counts(out, n, g);
             Go { filled, more: true }
         }
         Rest::Uneven => {
-            let filled = put_instead(out, f, b"bad case\n");
+            let filled = put_instead(stdout, out, f, b"bad case\n");
             Go { filled, more: true }
         }
         Rest::Cut => {
-            let filled = put_instead(out, f, b"cut short\n");
+            let filled = put_instead(stdout, out, f, b"cut short\n");
             Go {
                 filled,
                 more: false,
@@ -459,14 +481,21 @@ fn first(opened: Opened, out: &mut [u8]) -> Frame {
 }
 
 // The stream of a case, over a buffer that is opened, or not.
-fn stream(whole: u64, chunk: &mut [u8], buf: &mut [u8], out: &mut [u8], f: Frame) -> Go {
-    let s = pieces(whole, chunk, buf, out, f);
-    ended(buf, out, s)
+fn stream(
+    console: Console,
+    whole: u64,
+    chunk: &mut [u8],
+    buf: &mut [u8],
+    out: &mut [u8],
+    f: Frame,
+) -> Go {
+    let s = pieces(console, whole, chunk, buf, out, f);
+    ended(console.stdout, buf, out, s)
 }
 
 // A payload that is passed over, and the line for it.
-fn passed_over(whole: u64, chunk: &mut [u8], out: &mut [u8], word: &[u8]) -> Go {
-    if read::skip(whole, chunk) {
+fn passed_over(stdin: Stdin, whole: u64, chunk: &mut [u8], out: &mut [u8], word: &[u8]) -> Go {
+    if read::skip(stdin, whole, chunk) {
         return Go {
             filled: output::put_word(out, 0, word),
             more: true,
@@ -480,6 +509,7 @@ fn passed_over(whole: u64, chunk: &mut [u8], out: &mut [u8], word: &[u8]) -> Go 
 
 // The stream of a case whose opening is tried.
 fn framed(
+    console: Console,
     rest: u64,
     n: usize,
     opened: Opened,
@@ -489,29 +519,43 @@ fn framed(
 ) -> Go {
     let f = first(opened, out);
     if area.len() < n {
-        return stream(rest, chunk, area, out, f);
+        return stream(console, rest, chunk, area, out, f);
     }
-    stream(rest, chunk, &mut area[..n], out, f)
+    stream(console, rest, chunk, &mut area[..n], out, f)
 }
 
 // The stream of a case, over a buffer of so many bytes and from a start offset on.
-fn begun(rest: u64, n: usize, start: u64, chunk: &mut [u8], area: &mut [u8], out: &mut [u8]) -> Go {
+fn begun(
+    console: Console,
+    rest: u64,
+    n: usize,
+    start: u64,
+    chunk: &mut [u8],
+    area: &mut [u8],
+    out: &mut [u8],
+) -> Go {
     if 65537 < n {
-        return passed_over(rest, chunk, out, b"too long\n");
+        return passed_over(console.stdin, rest, chunk, out, b"too long\n");
     }
     if chunk.len() < n {
-        return passed_over(rest, chunk, out, b"too long\n");
+        return passed_over(console.stdin, rest, chunk, out, b"too long\n");
     }
     let opened = reader::open(start, &chunk[..n]);
-    framed(rest, n, opened, chunk, area, out)
+    framed(console, rest, n, opened, chunk, area, out)
 }
 
 // One case of so many bytes, from an empty output on.
-pub fn answer(whole: u64, chunk: &mut [u8], area: &mut [u8], out: &mut [u8]) -> Go {
+pub fn answer(
+    console: Console,
+    whole: u64,
+    chunk: &mut [u8],
+    area: &mut [u8],
+    out: &mut [u8],
+) -> Go {
     if whole < 12 {
-        return passed_over(whole, chunk, out, b"bad case\n");
+        return passed_over(console.stdin, whole, chunk, out, b"bad case\n");
     }
-    if !read::fill(chunk, 12) {
+    if !read::fill(console.stdin, chunk, 12) {
         return Go {
             filled: output::put_word(out, 0, b"cut short\n"),
             more: false,
@@ -519,5 +563,5 @@ pub fn answer(whole: u64, chunk: &mut [u8], area: &mut [u8], out: &mut [u8]) -> 
     }
     let n = read::little4(chunk, 0);
     let start = read::little8(chunk, 4);
-    begun(whole - 12, n, start, chunk, area, out)
+    begun(console, whole - 12, n, start, chunk, area, out)
 }

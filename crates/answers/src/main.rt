@@ -1,6 +1,8 @@
 // Answers cases from standard input, one line each, so that any other implementation can be held beside the library.
 // A case is its kind (1 byte), the length of its payload (4 bytes, little endian) and the payload. Numbers are printed in decimal,
 // bytes in hex, `-` for none; docs/ANSWERS.md has the whole protocol.
+#![tactic(auto)]
+
 ghost use Rattle.std.specs.Prelude.{◌≤◌, length};
 
 mod frames;
@@ -11,39 +13,61 @@ mod tokens;
 mod varints;
 
 use refusal::Format;
+use std::io::{Stdin, Stdout};
+
+// Where cases come from, and where answers go.
+#[derive(Clone, Copy)]
+pub struct Console {
+    pub stdin: Stdin,
+    pub stdout: Stdout,
+}
 
 // Whether the program goes on, and how much of the output is filled.
-#[derive(Drop)]
+#[derive(Clone, Copy)]
 pub struct Go {
     pub filled: usize,
     pub more: bool,
 }
 
 // A case of tokens or strings.
-fn answer_tokens(kind: u8, payload: &[u8], area: &mut [u8], out: &mut [u8], n: usize) -> usize {
+fn answer_tokens(
+    stdout: Stdout,
+    kind: u8,
+    payload: &[u8],
+    area: &mut [u8],
+    out: &mut [u8],
+    n: usize,
+) -> usize {
     match kind {
         7 => tokens::token(payload, Format::Binary, out, n),
         8 => tokens::token(payload, Format::Text, out, n),
-        9 => tokens::string(payload, Format::Binary, area, out, n),
-        10 => tokens::string(payload, Format::Text, area, out, n),
+        9 => tokens::string(stdout, payload, Format::Binary, area, out, n),
+        10 => tokens::string(stdout, payload, Format::Text, area, out, n),
         _ => output::put_word(out, n, b"bad case\n"),
     }
 }
 
 // A case of varints.
-fn answer_varints(kind: u8, payload: &[u8], out: &mut [u8], n: usize) -> usize {
+fn answer_varints(stdout: Stdout, kind: u8, payload: &[u8], out: &mut [u8], n: usize) -> usize {
     match kind {
         3 => varints::read_unsigned(payload, out, n),
         4 => varints::read_signed(payload, out, n),
-        5 => varints::write_unsigned(payload, out, n),
-        6 => varints::write_signed(payload, out, n),
+        5 => varints::write_unsigned(stdout, payload, out, n),
+        6 => varints::write_signed(stdout, payload, out, n),
         _ => output::put_word(out, n, b"bad case\n"),
     }
 }
 
 // One case, whose payload is whole.
-fn answer(kind: u8, payload: &[u8], area: &mut [u8], out: &mut [u8], filled: usize) -> usize {
-    let n = text::spare(out, filled);
+fn answer(
+    stdout: Stdout,
+    kind: u8,
+    payload: &[u8],
+    area: &mut [u8],
+    out: &mut [u8],
+    filled: usize,
+) -> usize {
+    let n = text::spare(stdout, out, filled);
     if kind == 1 {
         return scans::scan(payload, Format::Binary, out, n);
     }
@@ -51,9 +75,9 @@ fn answer(kind: u8, payload: &[u8], area: &mut [u8], out: &mut [u8], filled: usi
         return scans::scan(payload, Format::Text, out, n);
     }
     if kind <= 6 {
-        return answer_varints(kind, payload, out, n);
+        return answer_varints(stdout, kind, payload, out, n);
     }
-    answer_tokens(kind, payload, area, out, n)
+    answer_tokens(stdout, kind, payload, area, out, n)
 }
 
 // What a payload answers that is longer than any that is read: cases of bytes are too long, and no other case has such a form.
@@ -65,9 +89,16 @@ fn put_long(kind: u8, out: &mut [u8], n: usize) -> usize {
 }
 
 // A case with such a payload, which is passed over.
-fn pass_over(kind: u8, rest: u64, payload: &mut [u8], out: &mut [u8], filled: usize) -> Go {
-    let n = text::spare(out, filled);
-    if read::skip(rest, payload) {
+fn pass_over(
+    console: Console,
+    kind: u8,
+    rest: u64,
+    payload: &mut [u8],
+    out: &mut [u8],
+    filled: usize,
+) -> Go {
+    let n = text::spare(console.stdout, out, filled);
+    if read::skip(console.stdin, rest, payload) {
         return Go {
             filled: put_long(kind, out, n),
             more: true,
@@ -81,6 +112,7 @@ fn pass_over(kind: u8, rest: u64, payload: &mut [u8], out: &mut [u8], filled: us
 
 // A case whose payload fits, read and answered.
 fn fitting(
+    console: Console,
     kind: u8,
     size: usize,
     payload: &mut [u8],
@@ -90,20 +122,21 @@ fn fitting(
 ) -> Go
     requires { size ≤ length payload.old }
 {
-    if !read::fill(payload, size) {
+    if !read::fill(console.stdin, payload, size) {
         return Go {
             filled: output::put_word(out, n, b"cut short\n"),
             more: false,
         };
     }
     Go {
-        filled: answer(kind, &payload[..size], area, out, n),
+        filled: answer(console.stdout, kind, &payload[..size], area, out, n),
         more: true,
     }
 }
 
 // The case of which kind and length were read.
 fn begun(
+    console: Console,
     kind: u8,
     size: usize,
     payload: &mut [u8],
@@ -112,57 +145,70 @@ fn begun(
     n: usize,
 ) -> Go {
     if kind == 11 {
-        text::flush(out, n);
-        return frames::answer(size as u64, payload, area, out);
+        text::flush(console.stdout, out, n);
+        return frames::answer(console, size as u64, payload, area, out);
     }
     if payload.len() < size {
-        return pass_over(kind, size as u64, payload, out, n);
+        return pass_over(console, kind, size as u64, payload, out, n);
     }
-    fitting(kind, size, payload, area, out, n)
+    fitting(console, kind, size, payload, area, out, n)
 }
 
 // The next case, if there is one.
 fn turn(
+    console: Console,
     head: &mut [u8; 5],
     payload: &mut [u8],
     area: &mut [u8],
     out: &mut [u8],
     filled: usize,
 ) -> Go {
-    let got = io::read_full(0, head);
+    let got = read::full(console.stdin, head);
     if got == 0 {
         return Go {
             filled,
             more: false,
         };
     }
-    let n = text::spare(out, filled);
+    let n = text::spare(console.stdout, out, filled);
     if got < 5 {
         return Go {
             filled: output::put_word(out, n, b"cut short\n"),
             more: false,
         };
     }
-    begun(head[0], read::little4(head, 1), payload, area, out, n)
+    begun(
+        console,
+        head[0],
+        read::little4(head, 1),
+        payload,
+        area,
+        out,
+        n,
+    )
 }
 
-fn run(payload: &mut [u8], area: &mut [u8], out: &mut [u8]) {
+fn run(console: Console, payload: &mut [u8], area: &mut [u8], out: &mut [u8]) {
     let mut head = [0u8; 5];
     let mut filled: usize = 0;
     let mut more = true;
     let mut turns = u64::MAX;
     while turns > 0 && more {
-        let g = turn(&mut head, payload, area, out, filled);
+        let g = turn(console, &mut head, payload, area, out, filled);
         filled = g.filled;
         more = g.more;
         turns -= 1;
     }
-    text::flush(out, filled);
+    text::flush(console.stdout, out, filled);
 }
 
-fn main() {
+fn main(rt: HostRuntime) {
+    let console = Console {
+        stdin: rt.stdin(),
+        stdout: rt.stdout(),
+    };
     let mut payload = [0u8; 65544];
-    let mut area = io::large_buffer();
-    let mut out = io::large_buffer();
-    run(&mut payload, &mut area, &mut out);
+    let mut area = [0u8; 65536];
+    let mut out = [0u8; 65536];
+    run(console, &mut payload, &mut area, &mut out);
 }

@@ -1,5 +1,7 @@
 // Numbers of a case, and payloads that are passed over.
-ghost use Rattle.std.specs.Prelude.{◌≤◌};
+ghost use Rattle.std.specs.Prelude.{◌≤◌, length};
+
+use std::io::{Read, Stdin};
 
 // A byte as a wide number.
 fn wide(x: u8) -> u64
@@ -64,23 +66,48 @@ fn least(a: u64, b: usize) -> usize
     b
 }
 
+// One reading of the input: how many bytes it put at the front, none at the input's end and where it cannot be read.
+fn some(mut stdin: Stdin, bytes: &mut [u8]) -> usize
+    ensures { result ≤ length bytes.new }
+{
+    match stdin.read(bytes) {
+        Ok(count) => count,
+        Err(_) => 0,
+    }
+}
+
+// Reads until the bytes are full or no more come, and answers how many did.
+pub fn full(stdin: Stdin, bytes: &mut [u8]) -> usize
+    ensures { result ≤ length bytes.new }
+{
+    let mut done = 0;
+    while done < bytes.len() {
+        let count = some(stdin, &mut bytes[done..]);
+        if count == 0 {
+            return done;
+        }
+        done += count;
+    }
+    done
+}
+
 // Reads so many bytes at the front of a chunk, and answers whether they were all there.
-pub fn fill(chunk: &mut [u8], n: usize) -> bool {
+pub fn fill(stdin: Stdin, chunk: &mut [u8], n: usize) -> bool {
     if chunk.len() < n {
         return false;
     }
-    io::read_full(0, &mut chunk[..n]) == n
+    full(stdin, &mut chunk[..n]) == n
 }
 
 // Reads so many bytes and drops them; false where the input ends before.
-pub fn skip(rest: u64, chunk: &mut [u8]) -> bool {
+pub fn skip(stdin: Stdin, rest: u64, chunk: &mut [u8]) -> bool {
     let mut left = rest;
     while 0 < left {
         let n = least(left, chunk.len());
         if n == 0 {
             return false;
         }
-        if !fill(chunk, n) {
+        if !fill(stdin, chunk, n) {
             return false;
         }
         left -= n as u64;

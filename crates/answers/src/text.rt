@@ -2,23 +2,24 @@
 ghost use Rattle.std.specs.Prelude.{◌<◌};
 
 use refusal::Refusal;
+use std::io::Stdout;
 
-// Writes out what is filled.
-pub fn flush(out: &[u8], filled: usize) {
+// Writes out what is filled. What cannot be written is told nowhere.
+pub fn flush(stdout: Stdout, out: &[u8], filled: usize) {
     if filled <= out.len() {
-        io::write_all(1, &out[..filled]);
+        let _ = stdout.write_all(&out[..filled]);
     }
 }
 
 // Room for a short line: writes out what is filled where fewer than 256 bytes are left.
-pub fn spare(out: &[u8], filled: usize) -> usize {
+pub fn spare(stdout: Stdout, out: &[u8], filled: usize) -> usize {
     if out.len() < filled {
         return 0;
     }
     if 256 <= out.len() - filled {
         return filled;
     }
-    flush(out, filled);
+    flush(stdout, out, filled);
     0
 }
 
@@ -71,14 +72,14 @@ pub fn put_bits(out: &mut [u8], n: usize, bits: u64) -> usize {
 }
 
 // Bytes in hex, `-` for none. What is filled is written out as often as needed.
-pub fn put_bytes(out: &mut [u8], filled: usize, bytes: &[u8]) -> usize {
+pub fn put_bytes(stdout: Stdout, out: &mut [u8], filled: usize, bytes: &[u8]) -> usize {
     if bytes.len() == 0 {
         return output::put_word(out, filled, b"-");
     }
     let mut n = filled;
     let mut i = 0;
     while i < bytes.len() {
-        n = spare(out, n);
+        n = spare(stdout, out, n);
         n = put_byte(out, n, bytes[i]);
         i += 1;
     }

@@ -3,6 +3,7 @@ ghost use Rattle.std.specs.Prelude.{◌≤◌, length};
 
 use crate::{read, text};
 use refusal::{Cause, Format};
+use std::io::Stdout;
 use token::{Read, Token, Unescaped};
 
 // A word, a place and a length.
@@ -142,7 +143,14 @@ fn clear(area: &mut [u8], room: usize) {
 }
 
 // The string of a case, into the first bytes of an area.
-fn string_into(payload: &[u8], format: Format, area: &mut [u8], out: &mut [u8], n: usize) -> usize
+fn string_into(
+    stdout: Stdout,
+    payload: &[u8],
+    format: Format,
+    area: &mut [u8],
+    out: &mut [u8],
+    n: usize,
+) -> usize
     requires { 8 ≤ length payload.now }
 {
     let room = read::little4(payload, 4);
@@ -158,17 +166,24 @@ fn string_into(payload: &[u8], format: Format, area: &mut [u8], out: &mut [u8], 
     );
     let a = put_unescaped(out, n, found);
     let b = output::put_word(out, a, b" ");
-    let c = text::put_bytes(out, b, &area[..room]);
+    let c = text::put_bytes(stdout, out, b, &area[..room]);
     text::put_newline(out, c)
 }
 
 // Kinds 9 and 10: the bytes of the string at a place, into an output of so many bytes AA.
-pub fn string(payload: &[u8], format: Format, area: &mut [u8], out: &mut [u8], n: usize) -> usize {
+pub fn string(
+    stdout: Stdout,
+    payload: &[u8],
+    format: Format,
+    area: &mut [u8],
+    out: &mut [u8],
+    n: usize,
+) -> usize {
     if payload.len() < 8 {
         return output::put_word(out, n, b"bad case\n");
     }
     if 65544 < payload.len() {
         return output::put_word(out, n, b"too long\n");
     }
-    string_into(payload, format, area, out, n)
+    string_into(stdout, payload, format, area, out, n)
 }

@@ -3,6 +3,7 @@ ghost use Rattle.std.specs.Prelude.{◌≡◌, length};
 
 use crate::{read, text};
 use refusal::Cause;
+use std::io::Stdout;
 use varint::{Uvarint, Varint, Written};
 
 // `value V NEXT` of a number that is not below nought.
@@ -68,26 +69,26 @@ pub fn read_signed(payload: &[u8], out: &mut [u8], n: usize) -> usize {
 }
 
 // `wrote COUNT BYTES` or `refused 27 BYTES`.
-fn put_written(written: Written, area: &[u8], out: &mut [u8], n: usize) -> usize {
+fn put_written(stdout: Stdout, written: Written, area: &[u8], out: &mut [u8], n: usize) -> usize {
     match written {
         Written::Bytes { count } => {
             let a = output::put_word(out, n, b"wrote ");
             let b = output::put_decimal(out, a, count as u64);
             let c = output::put_word(out, b, b" ");
-            let d = text::put_bytes(out, c, area);
+            let d = text::put_bytes(stdout, out, c, area);
             text::put_newline(out, d)
         }
         Written::Short => {
             let a = text::put_cause(out, n, Cause::ShortOutput);
             let b = output::put_word(out, a, b" ");
-            let c = text::put_bytes(out, b, area);
+            let c = text::put_bytes(stdout, out, b, area);
             text::put_newline(out, c)
         }
     }
 }
 
 // The unsigned number of a case, into the first bytes of an area.
-fn unsigned_into(payload: &[u8], area: &mut [u8], out: &mut [u8], n: usize) -> usize
+fn unsigned_into(stdout: Stdout, payload: &[u8], area: &mut [u8], out: &mut [u8], n: usize) -> usize
     requires { length payload.now ≡ 9 }
 {
     let room = read::size(payload[8]);
@@ -95,20 +96,20 @@ fn unsigned_into(payload: &[u8], area: &mut [u8], out: &mut [u8], n: usize) -> u
         return n;
     }
     let written = varint::write_uvarint(read::little8(payload, 0), &mut area[..room]);
-    put_written(written, &area[..room], out, n)
+    put_written(stdout, written, &area[..room], out, n)
 }
 
 // Kind 5: an unsigned number into an output of so many bytes AA.
-pub fn write_unsigned(payload: &[u8], out: &mut [u8], n: usize) -> usize {
+pub fn write_unsigned(stdout: Stdout, payload: &[u8], out: &mut [u8], n: usize) -> usize {
     if payload.len() != 9 {
         return output::put_word(out, n, b"bad case\n");
     }
     let mut area = [0xAAu8; 255];
-    unsigned_into(payload, &mut area, out, n)
+    unsigned_into(stdout, payload, &mut area, out, n)
 }
 
 // The same of a signed number.
-fn signed_into(payload: &[u8], area: &mut [u8], out: &mut [u8], n: usize) -> usize
+fn signed_into(stdout: Stdout, payload: &[u8], area: &mut [u8], out: &mut [u8], n: usize) -> usize
     requires { length payload.now ≡ 9 }
 {
     let room = read::size(payload[8]);
@@ -117,14 +118,14 @@ fn signed_into(payload: &[u8], area: &mut [u8], out: &mut [u8], n: usize) -> usi
     }
     let value = zigzag::to_i64(read::little8(payload, 0));
     let written = varint::write_varint(value, &mut area[..room]);
-    put_written(written, &area[..room], out, n)
+    put_written(stdout, written, &area[..room], out, n)
 }
 
 // Kind 6: a signed number into an output of so many bytes AA.
-pub fn write_signed(payload: &[u8], out: &mut [u8], n: usize) -> usize {
+pub fn write_signed(stdout: Stdout, payload: &[u8], out: &mut [u8], n: usize) -> usize {
     if payload.len() != 9 {
         return output::put_word(out, n, b"bad case\n");
     }
     let mut area = [0xAAu8; 255];
-    signed_into(payload, &mut area, out, n)
+    signed_into(stdout, payload, &mut area, out, n)
 }

@@ -2,10 +2,12 @@
 // Standard input: the size of a piece, the number of rounds and how many times the bytes come in one stream (4 bytes each, little endian),
 // then these bytes, at most 65,536.
 // Prints how many records were handed out and how many readings that took, over all rounds; bench/ takes the time from outside.
+#![tactic(auto)]
+
 ghost use Rattle.std.specs.Prelude.{◌+◌, ◌<◌, ◌≤◌, length};
 
-use libc::{STDIN_FILENO, STDOUT_FILENO};
 use reader::{Found, State, Taking};
+use std::io::{Read, Stdin, Stdout};
 
 // Where a round stands.
 #[derive(Drop)]
@@ -186,27 +188,50 @@ fn little4(a: u8, b: u8, c: u8, d: u8) -> u64
     wide(a) + wide(b) * 0x100 + wide(c) * 0x1_0000 + wide(d) * 0x100_0000
 }
 
-fn say(word: &[u8]) {
-    io::write_all(STDOUT_FILENO, word);
+// One reading of the input: how many bytes it put at the front, none at the input's end and where it cannot be read.
+fn read_some(mut stdin: Stdin, bytes: &mut [u8]) -> usize
+    ensures { result ≤ length bytes.new }
+{
+    match stdin.read(bytes) {
+        Ok(count) => count,
+        Err(_) => 0,
+    }
 }
 
-fn run(buf: &mut [u8], stream: &mut [u8]) {
+// Reads until the bytes are full or no more come, and answers how many did.
+fn read_full(stdin: Stdin, bytes: &mut [u8]) -> usize
+    ensures { result ≤ length bytes.new }
+{
+    let mut done = 0;
+    while done < bytes.len() {
+        let count = read_some(stdin, &mut bytes[done..]);
+        if count == 0 {
+            return done;
+        }
+        done += count;
+    }
+    done
+}
+
+// `records RECORDS readings READINGS`. What cannot be written is told nowhere.
+fn say(stdout: Stdout, c: Counts) {
+    let _ = println!(stdout; "records {} readings {}", c.records, c.readings);
+}
+
+fn run(rt: HostRuntime, buf: &mut [u8], stream: &mut [u8]) {
+    let stdin = rt.stdin();
     let mut head = [0u8; 12];
-    io::read_full(STDIN_FILENO, &mut head);
+    read_full(stdin, &mut head);
     let size = little4(head[0], head[1], head[2], head[3]);
     let count = little4(head[4], head[5], head[6], head[7]);
     let times = little4(head[8], head[9], head[10], head[11]);
-    let n = io::read_full(STDIN_FILENO, stream);
+    let n = read_full(stdin, stream);
     let c = rounds(buf, &stream[..n], size as usize, count, times);
-    say(b"records ");
-    io::print_decimal(STDOUT_FILENO, c.records);
-    say(b" readings ");
-    io::print_decimal(STDOUT_FILENO, c.readings);
-    say(b"\n");
+    say(rt.stdout(), c);
 }
 
-fn main() {
-    let mut buf = io::large_buffer();
-    let mut stream = io::large_buffer();
-    run(&mut buf, &mut stream);
+fn main(rt: HostRuntime) {
+    let mut buf = [0u8; 65536];
+    let mut stream = [0u8; 65536];
+    run(rt, &mut buf, &mut stream);
 }

@@ -1,2 +1,3 @@
--- That a number's digits put into output are one list (One).
+-- What a number's decimal digits want of powers of ten (Digits), and that a number's digits put into output are one list (One).
+mod Digits
 pub mod One

@@ -7,7 +7,7 @@ use native.Mathlib.Nat.{pow-le-pow_right, zero-lt-suc}
 use native.Mathlib.Omega.{arith}
 use lib.Dec.{ltb}
 use borrow.Author.Tests.{ltb-true, ltb-false}
-use Rattle.io.specs.Digits.{last_digits, IsDigitCount}
+use Rattle.output.specs.Digits.{last_digits, IsDigitCount}
 use Rattle.output.specs.Put.{put, after, Decimal}
 
 -- no number of digits that holds x lies below the fewest

@@ -1,10 +1,12 @@
 // Prints the offset, length and mark of each record of the binary stream on standard input, and how the stream ends.
 // The records are those that crate `reader` hands out of a buffer of 65,536 bytes, from offset 0 on. Output goes through a buffer.
 // Input that cannot be read to its end and output that cannot be written are told on standard error, and no `end` line follows.
+#![tactic(auto)]
+
 ghost use Rattle.std.specs.Prelude.{◌+◌, ◌≤◌, length};
 
-use libc::{STDERR_FILENO, STDIN_FILENO, STDOUT_FILENO};
 use reader::{Found, Mark, State, Taking};
+use std::io::{Read, Stderr, Stdin, Stdout};
 
 // More than the longest line.
 const LINE: usize = 96;
@@ -35,30 +37,37 @@ struct Go {
 }
 
 // Writes out what is filled, and answers whether it could be written.
-fn flush(out: &[u8], filled: usize) -> bool {
+fn flush(stdout: Stdout, out: &[u8], filled: usize) -> bool {
     if out.len() < filled {
         return false;
     }
-    io::write_all(STDOUT_FILENO, &out[..filled])
+    stdout.write_all(&out[..filled]).is_ok()
 }
 
 // Room for a line: where there is none, what is filled is written out.
-fn spare(out: &[u8], filled: usize) -> usize {
+fn spare(stdout: Stdout, out: &[u8], filled: usize) -> usize {
     if out.len() < filled {
         return LOST;
     }
     if LINE <= out.len() - filled {
         return filled;
     }
-    if flush(out, filled) {
+    if flush(stdout, out, filled) {
         return 0;
     }
     LOST
 }
 
 // `OFFSET LENGTH MARK`
-fn put_record(out: &mut [u8], filled: usize, offset: u64, length: usize, mark: Mark) -> usize {
-    let n = spare(out, filled);
+fn put_record(
+    stdout: Stdout,
+    out: &mut [u8],
+    filled: usize,
+    offset: u64,
+    length: usize,
+    mark: Mark,
+) -> usize {
+    let n = spare(stdout, out, filled);
     let a = output::put_decimal(out, n, offset);
     let b = output::put_word(out, a, b" ");
     let c = output::put_decimal(out, b, length as u64);
@@ -69,8 +78,8 @@ fn put_record(out: &mut [u8], filled: usize, offset: u64, length: usize, mark: M
 }
 
 // `refused NUMBER OFFSET`
-fn put_refused(out: &mut [u8], filled: usize, number: usize, offset: u64) -> usize {
-    let n = spare(out, filled);
+fn put_refused(stdout: Stdout, out: &mut [u8], filled: usize, number: usize, offset: u64) -> usize {
+    let n = spare(stdout, out, filled);
     let a = output::put_word(out, n, b"refused ");
     let b = output::put_decimal(out, a, number as u64);
     let c = output::put_word(out, b, b" ");
@@ -79,8 +88,8 @@ fn put_refused(out: &mut [u8], filled: usize, number: usize, offset: u64) -> usi
 }
 
 // `end TAKEN records COUNT`
-fn put_end(out: &mut [u8], filled: usize, taken: u64, records: u64) -> usize {
-    let n = spare(out, filled);
+fn put_end(stdout: Stdout, out: &mut [u8], filled: usize, taken: u64, records: u64) -> usize {
+    let n = spare(stdout, out, filled);
     let a = output::put_word(out, n, b"end ");
     let b = output::put_decimal(out, a, taken);
     let c = output::put_word(out, b, b" records ");
@@ -90,6 +99,7 @@ fn put_end(out: &mut [u8], filled: usize, taken: u64, records: u64) -> usize {
 
 // The last line is a refusal.
 fn refuse(
+    stdout: Stdout,
     out: &mut [u8],
     state: State,
     filled: usize,
@@ -99,14 +109,14 @@ fn refuse(
 ) -> Go {
     Go {
         state,
-        filled: put_refused(out, filled, number, offset),
+        filled: put_refused(stdout, out, filled, number, offset),
         records,
         stop: Stop::Told,
     }
 }
 
 // Next, until it wants more or stops.
-fn drain(buf: &[u8], out: &mut [u8], before: State, put: usize, known: u64) -> Go {
+fn drain(stdout: Stdout, buf: &[u8], out: &mut [u8], before: State, put: usize, known: u64) -> Go {
     let mut state = before;
     let mut filled = put;
     let mut records = known;
@@ -123,11 +133,12 @@ fn drain(buf: &[u8], out: &mut [u8], before: State, put: usize, known: u64) -> G
                 offset,
                 mark,
             } => {
-                filled = put_record(out, filled, offset, length, mark);
+                filled = put_record(stdout, out, filled, offset, length, mark);
                 records = std::num::wrapping_add_u64(records, 1);
             }
             Found::Malformed { offset, refusal: _ } => {
                 return refuse(
+                    stdout,
                     out,
                     state,
                     filled,
@@ -138,6 +149,7 @@ fn drain(buf: &[u8], out: &mut [u8], before: State, put: usize, known: u64) -> G
             }
             Found::TooLong { offset, len: _ } => {
                 return refuse(
+                    stdout,
                     out,
                     state,
                     filled,
@@ -147,13 +159,29 @@ fn drain(buf: &[u8], out: &mut [u8], before: State, put: usize, known: u64) -> G
                 );
             }
             Found::CutShort { offset, held: _ } => {
-                return refuse(out, state, filled, records, refusal::CUT_SHORT, offset);
+                return refuse(
+                    stdout,
+                    out,
+                    state,
+                    filled,
+                    records,
+                    refusal::CUT_SHORT,
+                    offset,
+                );
             }
             Found::StrangeState => {
-                return refuse(out, state, filled, records, refusal::STRANGE_STATE, 0);
+                return refuse(
+                    stdout,
+                    out,
+                    state,
+                    filled,
+                    records,
+                    refusal::STRANGE_STATE,
+                    0,
+                );
             }
             Found::End => {
-                let n = put_end(out, filled, state.offset, records);
+                let n = put_end(stdout, out, filled, state.offset, records);
                 return Go {
                     state,
                     filled: n,
@@ -227,7 +255,7 @@ fn least(a: usize, b: usize) -> usize
 }
 
 // One piece, offered until it is taken or next stops.
-fn feed(buf: &mut [u8], out: &mut [u8], piece: &[u8], g: Go) -> Go {
+fn feed(stdout: Stdout, buf: &mut [u8], out: &mut [u8], piece: &[u8], g: Go) -> Go {
     let mut h = g;
     let mut from = 0;
     while from < piece.len() {
@@ -240,11 +268,11 @@ fn feed(buf: &mut [u8], out: &mut [u8], piece: &[u8], g: Go) -> Go {
         let number = p.number;
         let offset = state.offset;
         if count == 0 {
-            return refuse(out, state, filled, records, number, offset);
+            return refuse(stdout, out, state, filled, records, number, offset);
         }
         from += count;
-        h = drain(buf, out, state, filled, records);
-        if !goes_on(h) {
+        h = drain(stdout, buf, out, state, filled, records);
+        if !goes_on(&h) {
             return h;
         }
     }
@@ -265,25 +293,27 @@ fn stopped(g: Go, stop: Stop) -> Go {
 }
 
 // One reading of standard input, and the records that it completes.
-fn turn(buf: &mut [u8], out: &mut [u8], piece: &mut [u8], g: Go) -> Go {
-    let got = libc::read(STDIN_FILENO, piece);
-    if got < 0 {
-        return stopped(g, Stop::Unread);
+fn turn(
+    mut stdin: Stdin,
+    stdout: Stdout,
+    buf: &mut [u8],
+    out: &mut [u8],
+    piece: &mut [u8],
+    g: Go,
+) -> Go {
+    match stdin.read(piece) {
+        Err(_) => stopped(g, Stop::Unread),
+        Ok(0) => stopped(g, Stop::Over),
+        Ok(n) => feed(stdout, buf, out, &piece[..n], g),
     }
-    let n = io::count(got, piece);
-    if n == 0 {
-        return stopped(g, Stop::Over);
-    }
-    feed(buf, out, &piece[..n], g)
 }
 
 // Whether the stream goes on.
-fn goes_on(g: Go) -> bool {
+fn goes_on(g: &Go) -> bool {
     if g.filled == LOST {
         return false;
     }
-    let stop = g.stop;
-    match stop {
+    match g.stop {
         Stop::No => true,
         Stop::Over => false,
         Stop::Told => false,
@@ -292,29 +322,31 @@ fn goes_on(g: Go) -> bool {
 }
 
 // The pieces, to the input's end or the last line.
-fn pieces(buf: &mut [u8], out: &mut [u8], piece: &mut [u8], g: Go) -> Go {
+fn pieces(
+    stdin: Stdin,
+    stdout: Stdout,
+    buf: &mut [u8],
+    out: &mut [u8],
+    piece: &mut [u8],
+    g: Go,
+) -> Go {
     let mut h = g;
     let mut on = true;
     let mut turns = u64::MAX;
     while turns > 0 && on {
-        h = turn(buf, out, piece, h);
-        on = goes_on(h);
+        h = turn(stdin, stdout, buf, out, piece, h);
+        on = goes_on(&h);
         turns -= 1;
     }
     h
 }
 
 // At the input's end the stream is closed, and next called again until it stops.
-fn finish(buf: &[u8], out: &mut [u8], g: Go) -> Go {
-    let state = g.state;
-    let filled = g.filled;
-    let records = g.records;
-    let stop = g.stop;
-    match stop {
+fn finish(stdout: Stdout, buf: &[u8], out: &mut [u8], g: Go) -> Go {
+    match g.stop {
         Stop::Over => {
-            let t = state.close(buf);
-            let shut = t.state;
-            drain(buf, out, shut, filled, records)
+            let t = g.state.close(buf);
+            drain(stdout, buf, out, t.state, g.filled, g.records)
         }
         Stop::No => g,
         Stop::Told => g,
@@ -322,12 +354,13 @@ fn finish(buf: &[u8], out: &mut [u8], g: Go) -> Go {
     }
 }
 
-fn complain(word: &[u8]) {
-    io::write_all(STDERR_FILENO, word);
+// What cannot be written here is told nowhere.
+fn complain(stderr: Stderr, word: &[u8]) {
+    let _ = stderr.write_all(word);
 }
 
 // The whole stream, from its opening to its last line.
-fn stream(buf: &mut [u8], out: &mut [u8], piece: &mut [u8]) -> Go {
+fn stream(stdin: Stdin, stdout: Stdout, buf: &mut [u8], out: &mut [u8], piece: &mut [u8]) -> Go {
     let opened = reader::open(0, buf);
     let state = opened.state;
     let filled = output::put_word(out, 0, b"offset length mark\n");
@@ -337,33 +370,36 @@ fn stream(buf: &mut [u8], out: &mut [u8], piece: &mut [u8]) -> Go {
         records: 0,
         stop: Stop::No,
     };
-    pieces(buf, out, piece, first)
+    pieces(stdin, stdout, buf, out, piece, first)
 }
 
 // The rest of the output, and what went wrong.
-fn conclude(buf: &[u8], out: &mut [u8], g: Go) {
-    let h = finish(buf, out, g);
+fn conclude(stdout: Stdout, stderr: Stderr, buf: &[u8], out: &mut [u8], g: Go) {
+    let h = finish(stdout, buf, out, g);
     let stop = h.stop;
-    if !flush(out, h.filled) {
-        complain(b"records: the output could not be written\n");
+    if !flush(stdout, out, h.filled) {
+        complain(stderr, b"records: the output could not be written\n");
         return;
     }
     match stop {
-        Stop::Unread => complain(b"records: standard input could not be read to its end\n"),
-        Stop::No => complain(b"records: the stream has no end\n"),
+        Stop::Unread => complain(
+            stderr,
+            b"records: standard input could not be read to its end\n",
+        ),
+        Stop::No => complain(stderr, b"records: the stream has no end\n"),
         Stop::Over => {}
         Stop::Told => {}
     }
 }
 
-fn run(buf: &mut [u8], out: &mut [u8], piece: &mut [u8]) {
-    let g = stream(buf, out, piece);
-    conclude(buf, out, g);
+fn run(rt: HostRuntime, buf: &mut [u8], out: &mut [u8], piece: &mut [u8]) {
+    let g = stream(rt.stdin(), rt.stdout(), buf, out, piece);
+    conclude(rt.stdout(), rt.stderr(), buf, out, g);
 }
 
-fn main() {
-    let mut buf = io::large_buffer();
-    let mut out = io::large_buffer();
-    let mut piece = io::large_buffer();
-    run(&mut buf, &mut out, &mut piece);
+fn main(rt: HostRuntime) {
+    let mut buf = [0u8; 65536];
+    let mut out = [0u8; 65536];
+    let mut piece = [0u8; 65536];
+    run(rt, &mut buf, &mut out, &mut piece);
 }

@@ -1,32 +1,32 @@
 // The tokens of a record, walked by the cursor, how many there are, and what stands at a place.
 ghost use Rattle.std.specs.Prelude.{◌≡◌};
 
-use crate::{say, say_bytes, say_cause, say_kind, say_number, say_refusal, wide};
+use crate::{say, say_bytes, say_cause, say_kind, say_number, say_padded, say_refusal, wide};
 use cursor::{Peek, YsonIterator};
-use libc::STDOUT_FILENO;
 use lookup::Count;
 use refusal::{Cause, Format};
+use std::io::Stdout;
 use token::{Kind, Read, Token};
 
 // A string, with or without escapes.
-fn say_string(token: Token) {
+fn say_string(stdout: Stdout, token: Token) {
     match token {
         Token::String { start: _, len } => {
-            say(b"string of ");
-            say_number(len);
+            say(stdout, b"string of ");
+            say_number(stdout, len);
         }
         Token::Escaped { start: _, len } => {
-            say(b"escaped string of ");
-            say_number(len);
+            say(stdout, b"escaped string of ");
+            say_number(stdout, len);
         }
-        _ => say(b"no string"),
+        _ => say(stdout, b"no string"),
     }
 }
 
-fn say_scalar(token: Token) {
+fn say_scalar(stdout: Stdout, token: Token) {
     match token {
-        Token::Entity => say(b"#"),
-        _ => say_kind(token),
+        Token::Entity => say(stdout, b"#"),
+        _ => say_kind(stdout, token),
     }
 }
 
@@ -46,30 +46,30 @@ fn mark_byte(kind: Kind) -> u8 {
 }
 
 // Which token stands somewhere, by its kind.
-fn say_token(token: Token) {
+fn say_token(stdout: Stdout, token: Token) {
     let kind = token.kind();
     match kind {
-        Kind::Text => say_string(token),
-        Kind::Scalar => say_scalar(token),
+        Kind::Text => say_string(stdout, token),
+        Kind::Scalar => say_scalar(stdout, token),
         _ => {
             let byte = [mark_byte(kind)];
-            say(&byte)
+            say(stdout, &byte)
         }
     }
 }
 
 // The tokens of some bytes, a line for each, as the cursor reads them.
-fn say_tokens(bytes: &[u8], format: Format) {
+fn say_tokens(stdout: Stdout, bytes: &[u8], format: Format) {
     let mut at = 0;
     while at < bytes.len() {
         match lookup::token_at(bytes, at, format) {
             Read::Token { token, first, next } => {
-                say_token(token);
-                say(b" at ");
-                say_number(first);
-                say(b" end ");
-                say_number(next);
-                say(b"\n");
+                say_token(stdout, token);
+                say(stdout, b" at ");
+                say_number(stdout, first);
+                say(stdout, b" end ");
+                say_number(stdout, next);
+                say(stdout, b"\n");
                 at = next;
             }
             Read::Incomplete => return,
@@ -80,40 +80,40 @@ fn say_tokens(bytes: &[u8], format: Format) {
 }
 
 // How many they are.
-fn say_count(bytes: &[u8], format: Format) {
+fn say_count(stdout: Stdout, bytes: &[u8], format: Format) {
     match lookup::count_tokens(bytes, format) {
         Count::Tokens { count, end } => {
-            say_number(count);
-            say(b" tokens to ");
-            say_number(end);
-            say(b"\n");
+            say_number(stdout, count);
+            say(stdout, b" tokens to ");
+            say_number(stdout, end);
+            say(stdout, b"\n");
         }
         Count::Refused {
             count,
             end,
             refusal,
         } => {
-            say_number(count);
-            say(b" tokens to ");
-            say_number(end);
-            say(b", then ");
-            say_refusal(refusal);
+            say_number(stdout, count);
+            say(stdout, b" tokens to ");
+            say_number(stdout, end);
+            say(stdout, b", then ");
+            say_refusal(stdout, refusal);
         }
     }
 }
 
-fn text_tokens(bytes: &[u8]) {
-    say(bytes);
-    say(b"\n");
-    say_tokens(bytes, Format::Text);
-    say_count(bytes, Format::Text);
+fn text_tokens(stdout: Stdout, bytes: &[u8]) {
+    say(stdout, bytes);
+    say(stdout, b"\n");
+    say_tokens(stdout, bytes, Format::Text);
+    say_count(stdout, bytes, Format::Text);
 }
 
-fn binary_tokens(bytes: &[u8]) {
-    say(b"binary");
-    say_bytes(bytes);
-    say_tokens(bytes, Format::Binary);
-    say_count(bytes, Format::Binary);
+fn binary_tokens(stdout: Stdout, bytes: &[u8]) {
+    say(stdout, b"binary");
+    say_bytes(stdout, bytes);
+    say_tokens(stdout, bytes, Format::Binary);
+    say_count(stdout, bytes, Format::Binary);
 }
 
 // Where a cursor stands that was moved to a place.
@@ -124,47 +124,47 @@ fn standing(bytes: &[u8], at: usize, format: Format) -> usize
 }
 
 // The first byte of some text from a place on that is not ignored.
-fn peek(bytes: &[u8], at: usize) {
-    say(bytes);
-    say(b" from ");
-    say_number(standing(bytes, at, Format::Text));
-    say(b" : ");
+fn peek(stdout: Stdout, bytes: &[u8], at: usize) {
+    say(stdout, bytes);
+    say(stdout, b" from ");
+    say_number(stdout, standing(bytes, at, Format::Text));
+    say(stdout, b" : ");
     match lookup::peek_at(bytes, at, Format::Text) {
         Peek::Byte { byte, place } => {
-            io::print_hex(STDOUT_FILENO, wide(byte), 2);
-            say(b" at ");
-            say_number(place);
-            say(b"\n");
+            say_padded(stdout, wide(byte), 2);
+            say(stdout, b" at ");
+            say_number(stdout, place);
+            say(stdout, b"\n");
         }
-        Peek::Incomplete => say(b"incomplete\n"),
-        Peek::Beyond => say_cause(Cause::BeyondSlice),
+        Peek::Incomplete => say(stdout, b"incomplete\n"),
+        Peek::Beyond => say_cause(stdout, Cause::BeyondSlice),
     }
 }
 
 // The tokens of document 01's three records and of some text, whole, refused and cut short.
-pub fn all() {
-    say(b"tokens\n");
-    in_binary();
-    in_text();
-    peeks();
+pub fn all(stdout: Stdout) {
+    say(stdout, b"tokens\n");
+    in_binary(stdout);
+    in_text(stdout);
+    peeks(stdout);
 }
 
-fn in_binary() {
-    binary_tokens(b"{\x01\x02a=\x02\x02}");
-    binary_tokens(b"[\x02\x02\x02\x04]");
-    binary_tokens(b"<>#");
-    binary_tokens(b"[ ]");
-    binary_tokens(b"[\x01\x04a");
+fn in_binary(stdout: Stdout) {
+    binary_tokens(stdout, b"{\x01\x02a=\x02\x02}");
+    binary_tokens(stdout, b"[\x02\x02\x02\x04]");
+    binary_tokens(stdout, b"<>#");
+    binary_tokens(stdout, b"[ ]");
+    binary_tokens(stdout, b"[\x01\x04a");
 }
 
-fn in_text() {
-    text_tokens(b"<a=1>{b=\"x\\n\";c=[%true;#;-5;5u;5.]} // d");
-    text_tokens(b"[1 2 \"");
-    text_tokens(b"a/b");
+fn in_text(stdout: Stdout) {
+    text_tokens(stdout, b"<a=1>{b=\"x\\n\";c=[%true;#;-5;5u;5.]} // d");
+    text_tokens(stdout, b"[1 2 \"");
+    text_tokens(stdout, b"a/b");
 }
 
-fn peeks() {
-    peek(b" /* a */ [", 0);
-    peek(b" /* a */ [", 10);
-    peek(b" /* a */ [", 11);
+fn peeks(stdout: Stdout) {
+    peek(stdout, b" /* a */ [", 0);
+    peek(stdout, b" /* a */ [", 10);
+    peek(stdout, b" /* a */ [", 11);
 }
