@@ -25,10 +25,11 @@ build() { # NAME
     mkdir -p "$root/target"
     if is_program "$name"; then built=$folder/out/$name; else built=$folder/out/lib$name.a; fi
     if [ -n "${ONIONSAIL_PROVED:-}" ]; then
-        # rt ci leaves the programs that it built. An archive it proves and does not build: that is done over the libraries that it leaves.
+        # rt ci leaves the programs that it built. An archive it proves and does not build: that is done over the libraries that it leaves, but for
+        # a checkout where rt check was at work before, whose libraries rt ci puts back. Those have a stamp, and rt lib knows which still stand.
         if is_program "$name"; then
             [ ! -x "$built" ] || return 0
-        elif compile "$name" "$kit/toolchain" "$built" >"$log" 2>&1; then
+        elif ! compgen -G "$root/crates/*/out/rlib/stamp" >/dev/null && compile "$name" "$kit/toolchain" "$built" >"$log" 2>&1; then
             return 0
         fi
     fi
