@@ -4,12 +4,9 @@ use std::{env, path::Path, process::exit};
 
 const VARIABLE: &str = "ONIONSAIL_LIB_DIR";
 const HOW: &str = "\
-At the root of the repository, on x86-64:
-    rt staticlib abi
+At the root of the repository:
+    scripts/native abi_c target/staticlib/libabi.a
     export ONIONSAIL_LIB_DIR=$PWD/target/staticlib
-On another processor, to test and to measure:
-    scripts/native abi target/native/libabi.a
-    export ONIONSAIL_LIB_DIR=$PWD/target/native
 scripts/host does this and runs the tests.";
 
 fn main() {

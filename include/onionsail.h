@@ -1,4 +1,4 @@
-/* The scan of YSON values, for C. Link libabi.a, which `rt staticlib abi` writes. */
+/* The scan of YSON values, for C. Link libabi.a, which `scripts/native abi_c target/staticlib/libabi.a` writes. */
 #ifndef ONIONSAIL_H
 #define ONIONSAIL_H
 

@@ -12,19 +12,14 @@ need_cargo() { # WHAT WAS NOT DONE
     fi
 }
 
-# Builds libabi.a and names its folder in ONIONSAIL_LIB_DIR: on x86-64 the toolchain's archive, which is what ships, and elsewhere the
-# same module compiled for the machine at hand. Where the variable is set already, that folder's archive is taken as it is.
+# Builds libabi.a, which ships, and names its folder in ONIONSAIL_LIB_DIR. It is the archive of crate abi_c, under the name that the host
+# links. Where the variable is set already, that folder's archive is taken as it is.
 build_archive() {
     if [ -n "${ONIONSAIL_LIB_DIR:-}" ]; then
         echo "$me: taking $ONIONSAIL_LIB_DIR/libabi.a, which ONIONSAIL_LIB_DIR names" >&2
         return
     fi
-    if [ "$(uname -m)" = x86_64 ]; then
-        ONIONSAIL_LIB_DIR=$root/target/staticlib
-    else
-        ONIONSAIL_LIB_DIR=$root/target/native
-    fi
+    ONIONSAIL_LIB_DIR=$root/target/staticlib
     export ONIONSAIL_LIB_DIR
-    mkdir -p "$ONIONSAIL_LIB_DIR"
-    "$root/scripts/native" abi "$ONIONSAIL_LIB_DIR/libabi.a" || exit 2
+    "$root/scripts/native" abi_c "$ONIONSAIL_LIB_DIR/libabi.a" || exit 2
 }
