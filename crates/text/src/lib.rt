@@ -1,5 +1,7 @@
 // Text tokens: what stands at this place, behind blanks and comments, and where does it end?
 // The definition is `text_from` (specs/Text.antt): the first byte says which of the readers below is asked.
+#![tactic(auto)]
+
 ghost use Rattle.std.specs.Prelude.{◌≡◌, true, ◌+◌, ◌≤◌, ◌<◌, length, get_or};
 ghost use Rattle.token.specs.Meaning.{read_meaning, kinds_of};
 ghost use Rattle.token.specs.Ends.{end_of, string_end, scalar_end};
