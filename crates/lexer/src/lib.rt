@@ -1,5 +1,7 @@
 // Tokens in either format: one reader over both, for callers that are told the format.
 // The definitions are those of crates binary and text, joined by the format (specs/Lexer.antt).
+#![tactic(auto)]
+
 ghost use Rattle.std.specs.Prelude.{◌≡◌, length};
 ghost use Rattle.token.specs.Meaning.{read_meaning};
 ghost use Rattle.token.specs.Ends.{string_end, scalar_end};

@@ -3,12 +3,6 @@ use mathlib.Core.Path.{◌≡◌, ◌∙◌, sym, ap}
 use Rattle.refusal.specs.declared.Format.{Format}
 use Rattle.blanks.specs.Skip.{skip_from}
 use Rattle.lexer.specs.Lexer.{skip_of}
-use borrow.Author.Rules.{rules}
-use Rattle.std.proofs.Common.{length, ℕ, ◌+◌, ◌-◌, ◌*◌, ◌<◌, ◌≤◌, ◌/◌, ◌%◌, Bool, true, false, nat_eq, nat_lt, List, [], ◌∷◌, ◌++◌, slice_index_or, slice_set, bit_and, bit_or, Fits, w8, w32, w64, Bor, MutBor}
-use Rattle.token.specs.Meaning.{read_meaning}
-use Rattle.token.specs.Ends.{string_end, scalar_end}
-use Rattle.token.specs.Strings.{unescaped_meaning, bytes_answer, bytes_written}
-use Rattle.lexer.specs.Lexer.{token_at, kind_at, string_at}
 use Rattle.lexer.proofs.skip.Goals as goal
 
 pub returns-in-Binary : goal.returns-in-Binary

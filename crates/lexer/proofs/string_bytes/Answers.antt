@@ -6,12 +6,6 @@ use Rattle.token.specs.Strings.{bytes_answer, bytes_written}
 use Rattle.binary.specs.Strings.{binary_string_at}
 use Rattle.text.specs.Strings.{text_string_at}
 use Rattle.lexer.specs.Lexer.{string_at}
-use borrow.Author.Rules.{rules}
-use Rattle.std.proofs.Common.{ℕ, ◌+◌, ◌-◌, ◌*◌, ◌<◌, ◌≤◌, ◌/◌, ◌%◌, Bool, true, false, nat_eq, nat_lt, List, [], ◌∷◌, ◌++◌, slice_index_or, slice_set, bit_and, bit_or, Fits, w8, w32, w64, Bor, MutBor}
-use Rattle.token.specs.Meaning.{read_meaning}
-use Rattle.token.specs.Ends.{string_end, scalar_end}
-use Rattle.token.specs.Strings.{unescaped_meaning}
-use Rattle.lexer.specs.Lexer.{token_at, kind_at, skip_of}
 use Rattle.lexer.proofs.string_bytes.Goals as goal
 
 pub returns-in-Binary-clause-answer : goal.returns-in-Binary-clause-answer
@@ -22,7 +16,7 @@ returns-in-Binary-clause-answer c =
     let o = x.out.now in
     let e = sym c.in-Binary.is in
     let w = c.binary_string_bytes.ensures in
-    let answer : _ ≡ bytes_answer (binary_string_at s x.at) (length o) = w.0 in
+    let answer : _ ≡ bytes_answer (binary_string_at s x.at) (length o) = w.answer in
     answer ∙ ap (λ (f : Format). bytes_answer (string_at f s x.at) (length o)) e
 
 pub returns-in-Binary-clause-written : goal.returns-in-Binary-clause-written
@@ -33,8 +27,8 @@ returns-in-Binary-clause-written c =
     let o = x.out.now in
     let e = sym c.in-Binary.is in
     let w = c.binary_string_bytes.ensures in
-    let answer : _ ≡ bytes_answer (binary_string_at s x.at) (length o) = w.0 in
-    w.1 ∙ ap (λ (f : Format). bytes_written (string_at f s x.at) o) e
+    let answer : _ ≡ bytes_answer (binary_string_at s x.at) (length o) = w.answer in
+    w.written ∙ ap (λ (f : Format). bytes_written (string_at f s x.at) o) e
 
 pub returns-in-Text-clause-answer : goal.returns-in-Text-clause-answer
 unfolding string_at
@@ -44,7 +38,7 @@ returns-in-Text-clause-answer c =
     let o = x.out.now in
     let e = sym c.in-Text.is in
     let w = c.text_string_bytes.ensures in
-    let answer : _ ≡ bytes_answer (text_string_at s x.at) (length o) = w.0 in
+    let answer : _ ≡ bytes_answer (text_string_at s x.at) (length o) = w.answer in
     answer ∙ ap (λ (f : Format). bytes_answer (string_at f s x.at) (length o)) e
 
 pub returns-in-Text-clause-written : goal.returns-in-Text-clause-written
@@ -55,5 +49,5 @@ returns-in-Text-clause-written c =
     let o = x.out.now in
     let e = sym c.in-Text.is in
     let w = c.text_string_bytes.ensures in
-    let answer : _ ≡ bytes_answer (text_string_at s x.at) (length o) = w.0 in
-    w.1 ∙ ap (λ (f : Format). bytes_written (string_at f s x.at) o) e
+    let answer : _ ≡ bytes_answer (text_string_at s x.at) (length o) = w.answer in
+    w.written ∙ ap (λ (f : Format). bytes_written (string_at f s x.at) o) e

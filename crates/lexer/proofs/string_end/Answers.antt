@@ -6,13 +6,6 @@ use Rattle.token.specs.Meaning.{kinds_of}
 use Rattle.binary.specs.Binary.{binary_from}
 use Rattle.text.specs.Text.{text_from}
 use Rattle.lexer.specs.Lexer.{kind_at, token_from}
-use borrow.Author.Rules.{rules}
-use Rattle.text.proofs.string_end.Reads as string-end-reads'
-use Rattle.std.proofs.Common.{length, ℕ, ◌+◌, ◌-◌, ◌*◌, ◌<◌, ◌≤◌, ◌/◌, ◌%◌, Bool, true, false, nat_eq, nat_lt, List, [], ◌∷◌, ◌++◌, slice_index_or, slice_set, bit_and, bit_or, Fits, w8, w32, w64, Bor, MutBor}
-use Rattle.token.specs.Meaning.{read_meaning}
-use Rattle.token.specs.Ends.{scalar_end}
-use Rattle.token.specs.Strings.{unescaped_meaning, bytes_answer, bytes_written}
-use Rattle.lexer.specs.Lexer.{token_at, skip_of, string_at}
 use Rattle.lexer.proofs.string_end.Goals as goal
 
 pub returns-in-Binary : goal.returns-in-Binary
