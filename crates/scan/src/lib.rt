@@ -2,6 +2,8 @@
 // Each token that is passed is read once, or twice where it is a key before a block, and no value is made of it; the one at which a scan
 // stops is read again, to say why. The private functions answer one number, the end of a part, or 0 where the part is not whole; then `no`
 // and `place` say why: a refusal's number and its place, or the number 0 where the bytes ended. Where the part is whole they say nothing.
+#![tactic(auto)]
+
 ghost use Rattle.std.specs.Prelude.{◌≡◌, true, false, ◌⊎◌, ◌≤◌, ◌<◌, length};
 ghost use Rattle.refusal.specs.declared.Format.TheVariants.{Binary, Text};
 ghost use Rattle.token.specs.Ends.{string_end, scalar_end};

@@ -3,7 +3,6 @@ use mathlib.Core.Path.{◌≡◌, sym, ap, ap₂, ◌∙◌}
 use Prim.Native.Nat.{ℕ, ◌<◌}
 use mathlib.Core.List.{List}
 use native.Mathlib.Omega.{arith}
-use borrow.Author.Rules.{rules}
 use lib.ListN.{length}
 use Rattle.refusal.specs.Meaning.{number_of, place_of}
 use Rattle.refusal.specs.declared.Format.{Format}
@@ -17,8 +16,7 @@ use Rattle.lexer.specs.Lexer.{kind_at, token_at}
 use Rattle.lexer.proofs.Laws.{kinds_at, refused_is}
 use Rattle.scan.specs.Post.{answer_of, why_of}
 use Rattle.scan.proofs.Parts.{answer_refused}
-use Rattle.scan.proofs.why.Statement.{statement}
-use Rattle.scan.proofs.why.Tie as tie
+use Rattle.scan.proofs.why.Goals as goal
 
 module _ (f : Format) (s : List ℕ) (p w : ℕ) (t : Read) (within : p < length s) (told : read_meaning t ≡ token_at f s p) where
   -- the automaton reads the kind of what was told
@@ -41,51 +39,14 @@ module _ (f : Format) (s : List ℕ) (p w : ℕ) (t : Read) (within : p < length
   beyond : t ≡ read.Beyond → ⊥
   beyond e = let g = refused_is f s p (kind-is read.Beyond e) in omega (arith, g.1)
 
-next-token-requires : tie.Need-next-token-requires
-next-token-requires c κs = search rules
+pub returns-in-Token : goal.returns-in-Token
+returns-in-Token c = let h = c.requires in token _ _ _ _ _ h c.next_token.ensures _ _ _ c.in-Token.is
 
-enum-known-next : tie.Need-enum-known-next
-enum-known-next c = search rules
+pub returns-in-Incomplete : goal.returns-in-Incomplete
+returns-in-Incomplete c = let h = c.requires in none _ _ _ _ _ h c.next_token.ensures _ c.in-Incomplete.is
 
-returns : tie.Need-returns
-returns c = let h = c.before.before.before.before.before.requires in token _ _ _ _ _ h c.before.before.before.next-token.ensures _ _ _ c.before.next.given.1
+pub returns-in-Refused : goal.returns-in-Refused
+returns-in-Refused c = let h = c.requires in bad _ _ _ _ _ h c.next_token.ensures _ _ _ c.number.ensures c.place.ensures c.in-Refused.is
 
-enum_told : tie.Need-enum-told
-enum_told c = search rules
-
-returns-2 : tie.Need-returns-2
-returns-2 c = let h = c.before.before.before.before.requires in none _ _ _ _ _ h c.before.before.next-token.ensures _ c.enum_told.given.1
-
-enum-known-refusal : tie.Need-enum-known-refusal
-enum-known-refusal c = search rules
-
-number-requires : tie.Need-number-requires
-number-requires c κs = search rules
-
-place-requires : tie.Need-place-requires
-place-requires c κs = search rules
-
-returns-3 : tie.Need-returns-3
-returns-3 c = let h = c.before.before.before.before.before.before.before.requires in bad _ _ _ _ _ h c.before.before.before.before.before.next-token.ensures _ _ _ c.before.number.ensures c.place.ensures c.before.before.before.refusal.given.1
-
-enum-told-2 : tie.Need-enum-told-2
-enum-told-2 c = search rules
-
-returns-4 : tie.Need-returns-4
-returns-4 c = let h = c.before.before.before.before.requires in absurd (beyond _ _ _ 0 _ h c.before.before.next-token.ensures c.enum-told2.given.1)
-
-pub why-spec : {M : Type 1} → statement M
-why-spec =
-    tie.close
-    (tie.spec
-    next-token-requires
-    enum-known-next
-    returns
-    enum_told
-    returns-2
-    enum-known-refusal
-    number-requires
-    place-requires
-    returns-3
-    enum-told-2
-    returns-4)
+pub returns-in-Beyond : goal.returns-in-Beyond
+returns-in-Beyond c = let h = c.requires in absurd (beyond _ _ _ 0 _ h c.next_token.ensures c.in-Beyond.is)

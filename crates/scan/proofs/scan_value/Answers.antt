@@ -4,7 +4,6 @@ use Prim.Native.Nat.{ℕ, ◌≤◌}
 use mathlib.Core.Bool.{false}
 use mathlib.Core.List.{List, [], ◌∷◌}
 use native.Mathlib.Omega.{arith}
-use borrow.Author.Rules.{rules}
 use Rattle.refusal.specs.Numbers.{too_deep}
 use Rattle.refusal.specs.Paper.{Paper, gives, more, refused}
 use Rattle.refusal.specs.Meaning.{refusal_meaning, named_by}
@@ -17,8 +16,7 @@ use Rattle.scan.specs.Post.{answer_of, resume, Past, Tree, Begun}
 use Rattle.scan.proofs.Parts.{answer_whole, answer_refused, skipped}
 use Rattle.scan.proofs.Tokens.{skip_here}
 use Rattle.automaton.proofs.Named.{named_means}
-use Rattle.scan.proofs.scan_value.Statement.{statement}
-use Rattle.scan.proofs.scan_value.Tie as tie
+use Rattle.scan.proofs.scan_value.Goals as goal
 
 module _ {f : Format} {s : List ℕ} (q n a : ℕ) (tree : Tree f s 0 0 (answer_of q n a)) where
   ends : answer_of q n a ≡ scan_of f s
@@ -47,28 +45,17 @@ module _ {f : Format} {s : List ℕ} (q n a : ℕ) (tree : Tree f s 0 0 (answer_
       few : n ≤ too_deep
       few = subst (Past s 1) same tree.past
 
--- the value begins at the first byte that is not ignored
 tree : {f : Format} {s : List ℕ} (q n a p : ℕ) → p ≡ skip_of f s 0 → Begun f s p 0 false (answer_of q n a) → Tree f s 0 0 (answer_of q n a)
 tree {f} {s} q n a p e x = skipped f s p (λ K. K) value e x
 
-skip-requires : tie.Need-skip-requires
-skip-requires c κs = search rules
+pub scan_begun-len-requires : goal.scan_begun-len-requires
+scan_begun-len-requires c = (omega arith, skip_here _ _ _ _ c.skip-p.ensures)
 
-scan-begun-requires : tie.Need-scan-begun-requires
-scan-begun-requires c κs = (omega arith, skip_here _ _ _ _ c.before.before.skip.ensures)
+pub returns-then-len-ne0 : goal.returns-then-len-ne0
+returns-then-len-ne0 c = is_whole _ _ _ (tree _ _ _ _ c.skip-p.ensures c.scan_begun-len.ensures) c.if-len-ne0.true
 
-returns : tie.Need-returns
-returns c = is_whole _ _ _ (tree _ _ _ _ c.before.before.before.before.skip.ensures c.before.scan-begun.ensures) c.if1.true
+pub returns-then-no-eq0 : goal.returns-then-no-eq0
+returns-then-no-eq0 c = is_more _ _ _ (tree _ _ _ _ c.skip-p.ensures c.scan_begun-len.ensures) c.if-len-ne0.false c.if-no-eq0.true
 
-returns-2 : tie.Need-returns-2
-returns-2 c = is_more _ _ _ (tree _ _ _ _ c.before.before.before.before.before.skip.ensures c.before.before.scan-begun.ensures) c.before.if1.false c.if2.true
-
-refusal-of-requires : tie.Need-refusal-of-requires
-refusal-of-requires c κs = search rules
-
-returns-3 : tie.Need-returns-3
-returns-3 c = is_refused _ _ _ (tree _ _ _ _ c.before.before.before.before.before.before.skip.ensures c.before.before.before.scan-begun.ensures) _ c.before.before.if1.false c.before.if2.false c.refusal-of.ensures
-
-pub scan-value-spec : {M : Type 1} → statement M
-scan-value-spec =
-    tie.close (tie.spec skip-requires scan-begun-requires returns returns-2 refusal-of-requires returns-3)
+pub returns : goal.returns
+returns c = is_refused _ _ _ (tree _ _ _ _ c.skip-p.ensures c.scan_begun-len.ensures) _ c.if-len-ne0.false c.if-no-eq0.false c.refusal_of.ensures

@@ -1,0 +1,12 @@
+-- `past_flat` meets its contract: one pair after another.
+use Prim.Native.Nat.{◌-◌}
+use lib.ListN.{length}
+use Rattle.refusal.specs.declared.Format.TheVariants.{Binary}
+use Rattle.scan.specs.Post.{Along}
+use Rattle.scan.proofs.past_flat.Given as goal
+
+abbrev pub invariant-loop-from : goal.invariant-loop-from
+invariant-loop-from l = Along Binary l.input l.from l.at
+
+abbrev pub decreases-loop-from : goal.decreases-loop-from
+decreases-loop-from l = length l.input - l.at
