@@ -1,5 +1,7 @@
 // The same as a cursor's methods by plain parameters, for callers that hold no cursor; and the tokens of some bytes, counted.
 // specs/Count.antt says how they are counted.
+#![tactic(auto)]
+
 ghost use Rattle.std.specs.Prelude.{◌≡◌, length};
 ghost use Rattle.token.specs.Meaning.{read_meaning};
 ghost use Rattle.token.specs.Strings.{unescaped_meaning, bytes_answer, bytes_written};
