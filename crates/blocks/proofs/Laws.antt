@@ -1,13 +1,11 @@
 -- The readings, one at a time, with no count of steps in sight. Assumes nothing.
 use mathlib.Core.Path.{◌≡◌, refl, sym, ap, ◌∙◌}
-use mathlib.Core.Logic.{⊎_elim}
+use mathlib.Core.Logic.{◌⊎◌, inl, inr, ⊎_elim}
 use mathlib.Core.List.{List, [], ◌∷◌}
 use Prim.Native.Nat.{ℕ, zero, suc, ◌+◌, ◌-◌, ◌≤◌, ◌<◌}
 use native.Mathlib.Omega.{arith}
 use lib.ListN.{length, get_or}
 use borrow.Author.Tests.{lt-ltb, le-ltb}
-use types.Run.{OneOf, miss}
-use denote.Enum.Declared.{tag_of}
 use Rattle.refusal.specs.Paper.{Paper, gives, more, refused, Spot, spot}
 use Rattle.refusal.specs.declared.Format.TheVariants.{Binary}
 use Rattle.refusal.proofs.Cases.{either}
@@ -35,9 +33,7 @@ use Rattle.blocks.specs.Stops.{moved_by, kept_by}
 use Rattle.blocks.specs.declared.Stop.{Stop}
 use Rattle.blocks.specs.declared.Stop.TheVariants.{Ended, Unread, Whole}
 use Rattle.blocks.specs.declared.Stop.TheVariants as why
-use Rattle.blocks.specs.contracts.Stop.{the_type}
 use Rattle.blocks.proofs.Firsts.{token_is, end_is}
-use Rattle.blocks.proofs.Ways.{Told}
 
 -- over any token reader whose tokens take a byte at least
 module _ (t : Reader) (G : Grows t) (s : List ℕ) where
@@ -128,12 +124,9 @@ module _ (s : List ℕ) where
           by more f w = ap (reached p (n + 1) b) (sym w)
           by (refused m vs) f w = ap (reached p (n + 1) b) (sym w)
 
--- the moves that neither end the record nor are refused, by their numbers
-abbrev onward : List ℕ
-onward = 0 ∷ 1 ∷ 2 ∷ 3 ∷ 4 ∷ 5 ∷ 6 ∷ 7 ∷ 8 ∷ 9 ∷ 10 ∷ []
-
+-- the moves that neither end the record nor are refused
 abbrev pub Going : Move → Type 0
-Going r = Told onward r
+Going r = (r ≡ Finish → ⊥) × (r ≡ Wrong → ⊥) × (r ≡ Deep → ⊥)
 
 -- ---- each way of one reading of a whole token, from the place p with m blocks of the bytes ks open and d₀ due, to the place q
 
@@ -182,9 +175,9 @@ module _ (s : List ℕ) (p m : ℕ) (d₀ : Due) (ks : List ℕ) (n q : ℕ) (e 
   goes_as ToKey g h = keeps ToKey Key g refl
   goes_as ToEquals g h = keeps ToEquals Equals g refl
   goes_as ToValue g h = keeps ToValue Value g refl
-  goes_as Finish g h = absurd (miss onward 11 tt h)
-  goes_as Wrong g h = absurd (miss onward 12 tt h)
-  goes_as Deep g h = absurd (miss onward 13 tt h)
+  goes_as Finish g h = absurd (h.0 refl)
+  goes_as Wrong g h = absurd (h.1 refl)
+  goes_as Deep g h = absurd (h.2 refl)
 
   pub goes : Going r → read_on binary s p (blocks m d₀ ks) n ≡ read_on binary s q (moved_by r m d₀ ks) (n + 1)
   goes = goes_as r refl
@@ -216,9 +209,8 @@ pass_many s p b h = rw (lt-ltb most_open b.depth h)
 
 -- ---- the blocks that stay open where a run stops
 
-pub kept_open : (x : Stop) → OneOf (0 ∷ 1 ∷ 3 ∷ 4 ∷ []) (tag_of the_type x) → (b : Blocks) → kept_by x b ≡ b
-kept_open Ended h b = refl
-kept_open Unread h b = refl
-kept_open Whole h b = absurd (miss (0 ∷ 1 ∷ 3 ∷ 4 ∷ []) 2 tt h)
-kept_open why.Wrong h b = refl
-kept_open why.Deep h b = refl
+pub kept_open : (x : Stop) → (x ≡ Ended) ⊎ ((x ≡ Unread) ⊎ ((x ≡ why.Wrong) ⊎ (x ≡ why.Deep))) → (b : Blocks) → kept_by x b ≡ b
+kept_open x (inl e) b = rw e refl
+kept_open x (inr (inl e)) b = rw e refl
+kept_open x (inr (inr (inl e))) b = rw e refl
+kept_open x (inr (inr (inr e))) b = rw e refl

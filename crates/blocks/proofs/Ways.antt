@@ -1,14 +1,12 @@
 -- Each way through the code that decides what a token does, over plain variables. Assumes nothing.
 use mathlib.Core.Path.{◌≡◌, refl, sym, ap, ◌∙◌}
 use mathlib.Core.Bool.{Bool, true, false}
-use mathlib.Core.Logic.{⊎_elim}
-use mathlib.Core.List.{List, [], ◌∷◌}
+use mathlib.Core.Logic.{◌⊎◌, inl, inr, ⊎_elim}
+use mathlib.Core.List.{List, ◌∷◌}
 use Prim.Native.Nat.{ℕ, ◌-◌, ◌≤◌, ◌<◌}
 use native.Mathlib.Omega.{arith}
 use lib.ListN.{length, get_or}
 use borrow.Author.Tests.{eq-eqb, ne_eqb}
-use types.Run.{OneOf, miss}
-use denote.Enum.Declared.{tag_of}
 use Rattle.refusal.specs.Paper.{pick}
 use Rattle.refusal.proofs.Cases.{either}
 use Rattle.token.specs.declared.Kind.{Kind}
@@ -23,7 +21,6 @@ use Rattle.blocks.specs.declared.Move.TheVariants.{OpenList, OpenMap, OpenAttrib
 use Rattle.kept.specs.Kept.{around, open_in, due_of}
 use Rattle.blocks.specs.Moves.{kind_by, value_due, wrong_by, room_for, begins_value, Apt, Moves, Follows}
 use Rattle.blocks.specs.Stops.{blocks_with, moved_by}
-use Rattle.blocks.specs.contracts.Move.{the_type}
 use Rattle.kept.proofs.Stack.{open_none, open_some, on_list, on_map, on_attributes, around_is, after_other, list_other, map_other}
 
 module _ {K : List automaton.Block} {n : ℕ} where
@@ -206,25 +203,15 @@ module _ (ks : List ℕ) (n : ℕ) where
 pub apt_is : (n : ℕ) (r y : Move) → r ≡ y → Apt r n → Apt y n
 apt_is n r y e a = rw e at a
 
--- a move is one of those with these numbers
-abbrev pub Told : List ℕ → Move → Type 0
-Told ks r = OneOf ks (tag_of the_type r)
+-- a move that leaves the blocks and what is due as they were
+abbrev pub Keeps : Move → Type 0
+Keeps r = (r ≡ Stay) ⊎ ((r ≡ Finish) ⊎ ((r ≡ Wrong) ⊎ (r ≡ Deep)))
 
-pub moved_none : (r : Move) → Told (6 ∷ 11 ∷ 12 ∷ 13 ∷ []) r → (n : ℕ) (d : Due) (ks : List ℕ) → moved_by r n d ks ≡ blocks_with n d ks
-moved_none OpenList h n d ks = absurd (miss (6 ∷ 11 ∷ 12 ∷ 13 ∷ []) 0 tt h)
-moved_none OpenMap h n d ks = absurd (miss (6 ∷ 11 ∷ 12 ∷ 13 ∷ []) 1 tt h)
-moved_none OpenAttributes h n d ks = absurd (miss (6 ∷ 11 ∷ 12 ∷ 13 ∷ []) 2 tt h)
-moved_none CloseItem h n d ks = absurd (miss (6 ∷ 11 ∷ 12 ∷ 13 ∷ []) 3 tt h)
-moved_none CloseKey h n d ks = absurd (miss (6 ∷ 11 ∷ 12 ∷ 13 ∷ []) 4 tt h)
-moved_none CloseObject h n d ks = absurd (miss (6 ∷ 11 ∷ 12 ∷ 13 ∷ []) 5 tt h)
-moved_none Stay h n d ks = refl
-moved_none ToItem h n d ks = absurd (miss (6 ∷ 11 ∷ 12 ∷ 13 ∷ []) 7 tt h)
-moved_none ToKey h n d ks = absurd (miss (6 ∷ 11 ∷ 12 ∷ 13 ∷ []) 8 tt h)
-moved_none ToEquals h n d ks = absurd (miss (6 ∷ 11 ∷ 12 ∷ 13 ∷ []) 9 tt h)
-moved_none ToValue h n d ks = absurd (miss (6 ∷ 11 ∷ 12 ∷ 13 ∷ []) 10 tt h)
-moved_none Finish h n d ks = refl
-moved_none Wrong h n d ks = refl
-moved_none Deep h n d ks = refl
+pub moved_none : (r : Move) → Keeps r → (n : ℕ) (d : Due) (ks : List ℕ) → moved_by r n d ks ≡ blocks_with n d ks
+moved_none r (inl e) n d ks = rw e refl
+moved_none r (inr (inl e)) n d ks = rw e refl
+moved_none r (inr (inr (inl e))) n d ks = rw e refl
+moved_none r (inr (inr (inr e))) n d ks = rw e refl
 
 -- not more blocks than may be open
 pub moved_few : (r : Move) (n : ℕ) (d : Due) (ks : List ℕ) → Apt r n → n ≤ most_open → (moved_by r n d ks).depth ≤ most_open

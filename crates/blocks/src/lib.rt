@@ -1,5 +1,7 @@
 // What do the tokens of a record do to its open blocks, and how far do they go? `pass` reads them from a kept place on, and
 // specs/Readings.antt decides it with the automaton of crate `automaton`. Crate `kept` says how the open blocks are kept between pieces.
+#![tactic(auto)]
+
 ghost use Rattle.std.specs.Prelude.{◌≡◌, ◌≤◌, ◌<◌, length};
 ghost use Rattle.lexer.specs.Lexer.{kind_at};
 ghost use Rattle.refusal.specs.declared.Format.TheVariants.{Binary};
