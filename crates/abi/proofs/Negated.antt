@@ -12,7 +12,7 @@ use Rattle.refusal.specs.Numbers.{bad_call}
 
 -- a signed number that is passed on in 64 bits
 pub held : (z : ℤ) → mag z < 9223372036854775808 → to_z w64 (of_z w64 z) ≡ z
-held z h = to_z-of_z (record { sfits = h })
+held z h = to_z-of_z {w = w64} (record { sfits = h })
 
 -- minus such a number fits
 pub minus_fits : (k : ℕ) → k ≤ bad_call → SFits w64 (neg_ℤ (pos k))

@@ -1,5 +1,7 @@
 // The scan across the C boundary: what one number does the host get? `call_number` of specs/Call decides. A slice is passed in C as a
 // pointer and then a length.
+#![tactic(auto)]
+
 ghost use Rattle.std.specs.Prelude.{◌≡◌, ◌≤◌, pos, neg_ℤ};
 ghost use Rattle.refusal.specs.Numbers.{bad_call};
 ghost use Rattle.scan.specs.Meaning.{scan_meaning};

@@ -11,7 +11,7 @@ use Rattle.refusal.specs.declared.Format.{Format}
 use Rattle.refusal.specs.declared.Format.TheVariants.{Binary}
 use Rattle.lexer.specs.Lexer.{kind_at, list_closes}
 use Rattle.lexer.proofs.Laws.{ends, mark_here, skip_binary}
-use Rattle.automaton.specs.Step.{Block, Due, value, wrong, on_value, on_object, step}
+use Rattle.automaton.specs.Step.{Block, Due, value, on_value, on_object, step}
 use Rattle.scan.specs.Stops.{none}
 use Rattle.scan.specs.Walk.{scan_of}
 use Rattle.scan.specs.Stops.{Stop, ran_out, misplaced, Stops}
