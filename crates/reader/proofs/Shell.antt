@@ -1,5 +1,5 @@
 -- 28's tests as facts, and what follows from them. Assumes nothing.
-use mathlib.Core.Path.{◌≡◌, refl}
+use mathlib.Core.Path.{◌≡◌, refl, ap, ◌∙◌}
 use mathlib.Core.Bool.{true, false, ◌&&◌}
 use mathlib.Core.List.{List, [], ◌++◌}
 use Prim.Native.Nat.{ℕ, ◌+◌, ◌-◌, ◌≤◌}
@@ -15,7 +15,8 @@ use Rattle.places.specs.Places.{offset_fits}
 use Rattle.places.proofs.Tests.{both, placed}
 use Rattle.kept.specs.declared.Blocks.{Blocks}
 use Rattle.kept.specs.Kept.{kinds_known, depth_within, depth_within_passed, due_fits, blocks_fit}
-use Rattle.blocks.specs.Readings.{Reader, Grows}
+use Rattle.blocks.specs.Readings.{Reached, Reader, Grows, binary, read_from, pass_of}
+use Rattle.blocks.proofs.Laws.{pass_few}
 use Rattle.blocks.proofs.Ranged.{ranged}
 use Rattle.reader.specs.declared.State.{State}
 use Rattle.reader.specs.Fits.{held_of, fits, places_agree, offset_agrees, blocks_agree, Fitting}
@@ -23,7 +24,7 @@ use Rattle.reader.specs.Meaning.{told, looked}
 use Rattle.reader.specs.Calls.{skipped_of, state_at, buffered_of, read_of, taken_of, filled_by, offer_of, buffer_of, look_of, next_by, Within}
 use Rattle.buffer.specs.Buffer.{separators}
 use Rattle.blocks.proofs.Firsts.{pick_case}
-use Rattle.buffer.proofs.Buffer.{seps_le}
+use Rattle.buffer.proofs.Buffer.{part_is, seps_le}
 
 fit_depth : (b : Blocks) (passed : ℕ) → blocks_fit b passed ≡ true → b.depth ≤ most_open
 unfolding blocks_fit
@@ -72,6 +73,15 @@ within t G s l F =
     let n = length-slice s.start s.filled l F.within in
     let r = ranged t G (buffered_of s l) (s.place - s.start) s.blocks (omega arith) in
     record { to = omega (arith, r.to); whole = λ q e. (omega (arith, r.whole q e), omega (arith, r.whole q e)) }
+
+-- the state behind the separators belongs to the buffer, and the tokens of the bytes buffered there are read
+module _ (s t : State) (l : List ℕ) (e : fits s (length l) ≡ true) (f : t ≡ skipped_of s l) where
+  pub skipped_at : Fitting t (length l)
+  skipped_at = rw f (skipped_fits s l (fitting s (length l) e))
+
+  pub run_is : (r : Reached) → r ≡ pass_of (take (t.filled - t.start) (drop t.start l)) (t.place - t.start) t.blocks → r ≡ read_of binary t l
+  run_is r passed =
+      passed ∙ pass_few _ _ _ skipped_at.depth ∙ ap (λ (x : List ℕ). read_from x (t.place - t.start) t.blocks) (part_is t.start t.filled l)
 
 -- a piece that is not refused
 module _ (s : State) where

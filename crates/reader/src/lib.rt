@@ -1,6 +1,8 @@
 // The stream reader: successive records from a lent buffer that is filled piece by piece. What a call answers is decided by
 // specs/Calls.antt, which reads as document 01's "The stream"; 28's tests stand in specs/Fits.antt, those of numbers alone in crate
 // `places` and those of the open blocks in crate `kept`. The state goes by value.
+#![tactic(auto)]
+
 ghost use Rattle.std.specs.Prelude.{◌≡◌, ◌≤◌, length};
 ghost use Rattle.blocks.specs.Readings.{run_meaning};
 ghost use Rattle.reader.specs.Fits.{fits, Fitting};
