@@ -24,7 +24,7 @@ use Rattle.blocks.proofs.Firsts.{pick_case}
 use Rattle.reader.proofs.Shell.{next_looks}
 use Rattle.history.specs.Facts.{unpassed, HandsOut, progress_of}
 use Rattle.history.proofs.Readings.{Stops, stops, stops_again}
-use Rattle.history.proofs.Kept.{Kept, kept, kept_fits, skip_kept, wait_state, next_kept}
+use Rattle.history.proofs.Kept.{Kept, kept_fits, skip_kept, wait_state, next_kept}
 
 -- ---- separators are skipped once
 

@@ -9,7 +9,7 @@ use lib.Seq.{get_or-set_same, get_or-set_other}
 use borrow.Author.Tests.{lt-ltb, le-ltb}
 use Rattle.token.specs.declared.Kind.{Kind}
 use Rattle.automaton.specs.Limit.{most_open}
-use Rattle.automaton.specs.Step.{Block, list, map, attributes, Due, value, object, item, key, equals, go, deep, step}
+use Rattle.automaton.specs.Step.{Block, list, map, attributes, Due, value, object, item, key, equals, go, step}
 use Rattle.kept.specs.declared.Blocks.{Blocks}
 use Rattle.kept.specs.Kept.{block_of, byte_of, open_in, blocks_of, due_of, kept_due, innermost, kinds_then, blocks_then, no_blocks, kinds_known, takes, blocks_fit}
 use Rattle.kept.proofs.Stack.{open_length, open_some, known_byte, known_less, by_due}
