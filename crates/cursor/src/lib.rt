@@ -1,6 +1,6 @@
 // A cursor for callers that walk the tokens of a record: its bytes, a place in them and their format.
 // Each method takes the cursor apart and calls a function on the bytes and the place; what a token is, is crate lexer's to say.
-// specs/Cursor.antt says what a peek answers. A function that holds a cursor is proved by hand; crate lookup has the calls with plain parameters.
+// specs/Cursor.antt says what a peek answers. Crate lookup has the calls with plain parameters.
 #![tactic(auto)]
 
 ghost use Rattle.std.specs.Prelude.{◌≡◌, length};
