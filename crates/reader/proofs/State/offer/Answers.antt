@@ -50,14 +50,6 @@ returns-then-not-offset_fits-clause-written c =
 pub overflow_sub-next : goal.overflow_sub-next
 overflow_sub-next c = (fitting c.args.self (length c.args.buf.now) (sym c.fits_together.ensures ∙ c.if-not-fits_together.false)).order
 
-pub overflow_add-next : goal.overflow_add-next
-overflow_add-next c =
-    let a = c.args in
-    let F = fitting c.args.self (length c.args.buf.now) (sym c.fits_together.ensures ∙ c.if-not-fits_together.false) in
-    let e : _ ≡ taken_behind a.self.start a.self.filled (length a.buf.now) (length a.piece.now) = c.refill-count.ensures.answer in
-    let k : _ ≡ min (length a.piece.now) (length a.buf.now - held_of a.self) = e ∙ taken_is a.self.start a.self.filled (length a.buf.now) (ordered F) F.within (length a.piece.now) in
-    omega (arith, k, min-le_right (length a.piece.now) (length a.buf.now - held_of a.self), F.within, F.len, F.high)
-
 pub returns-clause-answer : goal.returns-clause-answer
 returns-clause-answer c =
     let a = c.args in
@@ -78,3 +70,11 @@ returns-clause-written c =
     let k : _ ≡ min (length a.piece.now) (length a.buf.now - held_of a.self) = e ∙ taken_is a.self.start a.self.filled (length a.buf.now) (ordered F) F.within (length a.piece.now) in
     c.refill-count.ensures.written ∙ refilled_is a.self.start a.self.filled a.piece.now a.buf.now (ordered F) F.within
     ∙ sym (buffer_taken a.self a.piece.now a.buf.now t c.if-closed.false o)
+
+pub overflow_add-next : goal.overflow_add-next
+overflow_add-next c =
+    let a = c.args in
+    let F = fitting c.args.self (length c.args.buf.now) (sym c.fits_together.ensures ∙ c.if-not-fits_together.false) in
+    let e : _ ≡ taken_behind a.self.start a.self.filled (length a.buf.now) (length a.piece.now) = c.refill-count.ensures.answer in
+    let k : _ ≡ min (length a.piece.now) (length a.buf.now - held_of a.self) = e ∙ taken_is a.self.start a.self.filled (length a.buf.now) (ordered F) F.within (length a.piece.now) in
+    omega (arith, k, min-le_right (length a.piece.now) (length a.buf.now - held_of a.self), F.within, F.len, F.high)
