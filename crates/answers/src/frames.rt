@@ -1,4 +1,4 @@
-// Kind 11: a stream in pieces, by the calling protocol of demand 3. Each piece, an empty one too, is offered at least once and until
+// Kind 11: a stream in pieces, by the calling protocol of promise 3. Each piece, an empty one too, is offered at least once and until
 // it is taken or next stops; next is called after each offer until it wants more or stops; after the last piece the stream is closed.
 // The pieces are read one after another, so that a frame may be longer than any buffer.
 ghost use Rattle.std.specs.Prelude.{◌+◌, ◌-◌, ◌≤◌, length};
