@@ -3,7 +3,7 @@
 // The pieces are read one after another, so that a frame may be longer than any buffer.
 ghost use Rattle.std.specs.Prelude.{◌+◌, ◌-◌, ◌≤◌, length};
 
-use crate::{Console, Go, read, text};
+use crate::{Console, Go, line, read};
 use reader::{Found, Mark, Opened, Opening, State, Taking};
 use refusal::Refusal;
 use std::io::{Stdin, Stdout};
@@ -107,7 +107,7 @@ fn drain(stdout: Stdout, buf: &[u8], out: &mut [u8], f: Frame) -> Frame {
     let mut turns = u64::MAX;
     while turns > 0 {
         turns -= 1;
-        let n = text::spare(stdout, out, filled);
+        let n = line::spare(stdout, out, filled);
         spilled = spilt(n, filled, spilled);
         let t = state.next(buf);
         state = t.state;
@@ -415,14 +415,14 @@ fn put_counts(out: &mut [u8], n: usize, f: Frame) -> usize {
     let b = output::put_decimal(out, a, f.readings);
     let c = output::put_word(out, b, b" nexts ");
     let d = output::put_decimal(out, c, f.nexts);
-    text::put_newline(out, d)
+    line::put_newline(out, d)
 }
 
 // A word in place of the line, or behind what is written out of it.
 fn put_instead(stdout: Stdout, out: &mut [u8], f: Frame, word: &[u8]) -> usize {
     if f.spilled {
-        let n = text::spare(stdout, out, f.filled);
-        let a = text::put_newline(out, n);
+        let n = line::spare(stdout, out, f.filled);
+        let a = line::put_newline(out, n);
         return output::put_word(out, a, word);
     }
     output::put_word(out, 0, word)
@@ -435,7 +435,7 @@ fn ended(stdout: Stdout, buf: &[u8], out: &mut [u8], s: Streamed) -> Go {
     match rest {
         Rest::Even => {
             let g = closed(stdout, buf, out, f);
-            let n = text::spare(stdout, out, g.filled);
+            let n = line::spare(stdout, out, g.filled);
             let filled = put_counts(out, n, g);
             Go { filled, more: true }
         }

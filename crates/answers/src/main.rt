@@ -6,9 +6,9 @@
 ghost use Rattle.std.specs.Prelude.{◌≤◌, length};
 
 mod frames;
+mod line;
 mod read;
 mod scans;
-mod text;
 mod tokens;
 mod varints;
 
@@ -67,7 +67,7 @@ fn answer(
     out: &mut [u8],
     filled: usize,
 ) -> usize {
-    let n = text::spare(stdout, out, filled);
+    let n = line::spare(stdout, out, filled);
     if kind == 1 {
         return scans::scan(payload, Format::Binary, out, n);
     }
@@ -97,7 +97,7 @@ fn pass_over(
     out: &mut [u8],
     filled: usize,
 ) -> Go {
-    let n = text::spare(console.stdout, out, filled);
+    let n = line::spare(console.stdout, out, filled);
     if read::skip(console.stdin, rest, payload) {
         return Go {
             filled: put_long(kind, out, n),
@@ -145,7 +145,7 @@ fn begun(
     n: usize,
 ) -> Go {
     if kind == 11 {
-        text::flush(console.stdout, out, n);
+        line::flush(console.stdout, out, n);
         return frames::answer(console, size as u64, payload, area, out);
     }
     if payload.len() < size {
@@ -170,7 +170,7 @@ fn turn(
             more: false,
         };
     }
-    let n = text::spare(console.stdout, out, filled);
+    let n = line::spare(console.stdout, out, filled);
     if got < 5 {
         return Go {
             filled: output::put_word(out, n, b"cut short\n"),
@@ -199,7 +199,7 @@ fn run(console: Console, payload: &mut [u8], area: &mut [u8], out: &mut [u8]) {
         more = g.more;
         turns -= 1;
     }
-    text::flush(console.stdout, out, filled);
+    line::flush(console.stdout, out, filled);
 }
 
 fn main(rt: HostRuntime) {

@@ -1,5 +1,5 @@
 // Kinds 1 and 2: the scan for one value.
-use crate::text;
+use crate::line;
 use refusal::Format;
 use scan::Scan;
 
@@ -11,7 +11,7 @@ fn put_scan(out: &mut [u8], n: usize, answer: Scan) -> usize {
             output::put_decimal(out, a, len as u64)
         }
         Scan::Incomplete => output::put_word(out, n, b"more"),
-        Scan::Refused { refusal } => text::put_refusal(out, n, refusal),
+        Scan::Refused { refusal } => line::put_refusal(out, n, refusal),
     }
 }
 
@@ -21,5 +21,5 @@ pub fn scan(payload: &[u8], format: Format, out: &mut [u8], n: usize) -> usize {
         return output::put_word(out, n, b"too long\n");
     }
     let a = put_scan(out, n, scan::scan_value(payload, format));
-    text::put_newline(out, a)
+    line::put_newline(out, a)
 }

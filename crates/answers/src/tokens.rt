@@ -1,7 +1,7 @@
 // Kinds 7 to 10: a token, and a string's bytes.
 ghost use Rattle.std.specs.Prelude.{◌≤◌, length};
 
-use crate::{read, text};
+use crate::{line, read};
 use refusal::{Cause, Format};
 use std::io::Stdout;
 use token::{Read, Token, Unescaped};
@@ -45,13 +45,13 @@ fn put_number(out: &mut [u8], n: usize, word: &[u8], v: u64) -> usize {
 // A signed number, behind its word.
 fn put_int64(out: &mut [u8], n: usize, v: i64) -> usize {
     let a = output::put_word(out, n, b"int64 ");
-    text::put_signed(out, a, v)
+    line::put_signed(out, a, v)
 }
 
 // A double by its bits, behind its word.
 fn put_double(out: &mut [u8], n: usize, bits: u64) -> usize {
     let a = output::put_word(out, n, b"double ");
-    text::put_bits(out, a, bits)
+    line::put_bits(out, a, bits)
 }
 
 // A token, without its places.
@@ -94,8 +94,8 @@ fn put_read(out: &mut [u8], n: usize, answer: Read) -> usize {
     match answer {
         Read::Token { token, first, next } => put_placed(out, n, token, first, next),
         Read::Incomplete => output::put_word(out, n, b"more"),
-        Read::Refused { refusal } => text::put_refusal(out, n, refusal),
-        Read::Beyond => text::put_cause(out, n, Cause::BeyondSlice),
+        Read::Refused { refusal } => line::put_refusal(out, n, refusal),
+        Read::Beyond => line::put_cause(out, n, Cause::BeyondSlice),
     }
 }
 
@@ -109,7 +109,7 @@ pub fn token(payload: &[u8], format: Format, out: &mut [u8], n: usize) -> usize 
     }
     let found = lookup::token_at(&payload[4..], read::little4(payload, 0), format);
     let a = put_read(out, n, found);
-    text::put_newline(out, a)
+    line::put_newline(out, a)
 }
 
 // How many bytes a string has, and the place after it.
@@ -123,10 +123,10 @@ fn put_unescaped(out: &mut [u8], n: usize, answer: Unescaped) -> usize {
     match answer {
         Unescaped::Bytes { count, next } => put_counted(out, n, count, next),
         Unescaped::Incomplete => output::put_word(out, n, b"more"),
-        Unescaped::Refused { refusal } => text::put_refusal(out, n, refusal),
-        Unescaped::Beyond => text::put_cause(out, n, Cause::BeyondSlice),
-        Unescaped::NotString => text::put_cause(out, n, Cause::NotString),
-        Unescaped::Short => text::put_cause(out, n, Cause::ShortOutput),
+        Unescaped::Refused { refusal } => line::put_refusal(out, n, refusal),
+        Unescaped::Beyond => line::put_cause(out, n, Cause::BeyondSlice),
+        Unescaped::NotString => line::put_cause(out, n, Cause::NotString),
+        Unescaped::Short => line::put_cause(out, n, Cause::ShortOutput),
     }
 }
 
@@ -166,8 +166,8 @@ fn string_into(
     );
     let a = put_unescaped(out, n, found);
     let b = output::put_word(out, a, b" ");
-    let c = text::put_bytes(stdout, out, b, &area[..room]);
-    text::put_newline(out, c)
+    let c = line::put_bytes(stdout, out, b, &area[..room]);
+    line::put_newline(out, c)
 }
 
 // Kinds 9 and 10: the bytes of the string at a place, into an output of so many bytes AA.

@@ -1,7 +1,7 @@
 // Kinds 3 to 6: varints, read and written.
 ghost use Rattle.std.specs.Prelude.{◌≡◌, length};
 
-use crate::{read, text};
+use crate::{line, read};
 use refusal::Cause;
 use std::io::Stdout;
 use varint::{Uvarint, Varint, Written};
@@ -17,7 +17,7 @@ fn put_value(out: &mut [u8], n: usize, value: u64, next: usize) -> usize {
 // The same of a signed number.
 fn put_signed_value(out: &mut [u8], n: usize, value: i64, next: usize) -> usize {
     let a = output::put_word(out, n, b"value ");
-    let b = text::put_signed(out, a, value);
+    let b = line::put_signed(out, a, value);
     let c = output::put_word(out, b, b" ");
     output::put_decimal(out, c, next as u64)
 }
@@ -27,8 +27,8 @@ fn put_unsigned_answer(out: &mut [u8], n: usize, answer: Uvarint) -> usize {
     match answer {
         Uvarint::Value { value, next } => put_value(out, n, value, next),
         Uvarint::More => output::put_word(out, n, b"more"),
-        Uvarint::Refused { refusal } => text::put_refusal(out, n, refusal),
-        Uvarint::Beyond => text::put_cause(out, n, Cause::BeyondSlice),
+        Uvarint::Refused { refusal } => line::put_refusal(out, n, refusal),
+        Uvarint::Beyond => line::put_cause(out, n, Cause::BeyondSlice),
     }
 }
 
@@ -37,8 +37,8 @@ fn put_signed_answer(out: &mut [u8], n: usize, answer: Varint) -> usize {
     match answer {
         Varint::Value { value, next } => put_signed_value(out, n, value, next),
         Varint::More => output::put_word(out, n, b"more"),
-        Varint::Refused { refusal } => text::put_refusal(out, n, refusal),
-        Varint::Beyond => text::put_cause(out, n, Cause::BeyondSlice),
+        Varint::Refused { refusal } => line::put_refusal(out, n, refusal),
+        Varint::Beyond => line::put_cause(out, n, Cause::BeyondSlice),
     }
 }
 
@@ -52,7 +52,7 @@ pub fn read_unsigned(payload: &[u8], out: &mut [u8], n: usize) -> usize {
     }
     let found = varint::read_uvarint(&payload[4..], read::little4(payload, 0));
     let a = put_unsigned_answer(out, n, found);
-    text::put_newline(out, a)
+    line::put_newline(out, a)
 }
 
 // Kind 4: the same of a signed varint.
@@ -65,7 +65,7 @@ pub fn read_signed(payload: &[u8], out: &mut [u8], n: usize) -> usize {
     }
     let found = varint::read_varint(&payload[4..], read::little4(payload, 0));
     let a = put_signed_answer(out, n, found);
-    text::put_newline(out, a)
+    line::put_newline(out, a)
 }
 
 // `wrote COUNT BYTES` or `refused 27 BYTES`.
@@ -75,14 +75,14 @@ fn put_written(stdout: Stdout, written: Written, area: &[u8], out: &mut [u8], n:
             let a = output::put_word(out, n, b"wrote ");
             let b = output::put_decimal(out, a, count as u64);
             let c = output::put_word(out, b, b" ");
-            let d = text::put_bytes(stdout, out, c, area);
-            text::put_newline(out, d)
+            let d = line::put_bytes(stdout, out, c, area);
+            line::put_newline(out, d)
         }
         Written::Short => {
-            let a = text::put_cause(out, n, Cause::ShortOutput);
+            let a = line::put_cause(out, n, Cause::ShortOutput);
             let b = output::put_word(out, a, b" ");
-            let c = text::put_bytes(stdout, out, b, area);
-            text::put_newline(out, c)
+            let c = line::put_bytes(stdout, out, b, area);
+            line::put_newline(out, c)
         }
     }
 }
