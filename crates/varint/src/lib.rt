@@ -75,35 +75,35 @@ pub fn read_uvarint(input: &[u8], at: usize) -> Result<Varint<u64>, Unread>
     tenth(input, at, value)
 }
 
-// The place after the varint that starts at `at` with nine bytes that have the top bit set; 0 where no whole one stands there.
-fn tenth_end(input: &[u8], at: usize) -> usize
+// The place after the varint that starts at `at` with nine bytes that have the top bit set, where a whole one stands.
+fn tenth_end(input: &[u8], at: usize) -> Option<usize>
     requires { 9 ≤ run (drop at input.now) }
     ensures { result ≡ uvarint_end (uvarint_at input.now at) }
 {
     let left = input.len() - at;
     if left <= 9 {
-        return 0;
+        return None;
     }
     if input[at + 9] < 2 {
-        return at + 10;
+        return Some(at + 10);
     }
-    0
+    None
 }
 
-// The place after the varint that starts at `at`, whose number is not asked for; 0 where no whole one stands there.
-pub fn uvarint_end(input: &[u8], at: usize) -> usize
+// The place after the varint that starts at `at`, whose number is not asked for, where a whole one stands.
+pub fn uvarint_end(input: &[u8], at: usize) -> Option<usize>
     ensures { result ≡ uvarint_end (uvarint_at input.now at) }
 {
     if input.len() < at {
-        return 0;
+        return None;
     }
     let left = input.len() - at;
     for i in 0..9 {
         if left <= i {
-            return 0;
+            return None;
         }
         if input[at + i] < 128 {
-            return at + i + 1;
+            return Some(at + i + 1);
         }
     }
     tenth_end(input, at)
