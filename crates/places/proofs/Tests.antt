@@ -2,7 +2,6 @@
 use mathlib.Core.Path.{◌≡◌, refl, ◌∙◌}
 use mathlib.Core.Bool.{Bool, true, false, ◌&&◌}
 use Prim.Native.Nat.{ℕ, ◌≤◌, ◌<◌}
-use native.Mathlib.Omega.{arith}
 use lib.Dec.{eqb, leb}
 use borrow.Author.Tests.{eq-eqb, ne_eqb, eqb-true, le-leb, lt-leb, leb-true}
 use Rattle.places.specs.Places.{least_buffer, most_buffer, is_buffer, in_order, places_fit}
@@ -10,7 +9,7 @@ use Rattle.places.specs.Places.{least_buffer, most_buffer, is_buffer, in_order, 
 -- two tests that both hold
 pub both : (a b : Bool) → a && b ≡ true → (a ≡ true) × (b ≡ true)
 both true b e = (refl, e)
-both false b e = let z : ◌≡◌ {A = ℕ} 0 1 = cc in absurd (omega arith)
+both false b e = cc
 
 -- ---- a buffer's length
 
