@@ -2,8 +2,7 @@
 // specs/Buffer.antt says which these are, for all places and lengths.
 #![tactic(auto)]
 
-ghost use Rattle.std.specs.Prelude.{◌≡◌, ◌+◌, ◌-◌, ◌≤◌, min, length};
-ghost use Rattle.std.proofs.Math.Seq.{slice, paste};
+ghost use Rattle.std.specs.Prelude.{◌≡◌, length};
 ghost use Rattle.buffer.specs.Buffer.{is_separator, separators, taken_behind, refilled, record_of};
 
 // Whether a byte separates records.
