@@ -1,41 +1,15 @@
--- What counting and writing a number's decimal digits want of powers of ten and of lists. Assumes nothing.
+-- What writing a number's decimal digits wants of lists. Assumes nothing.
 use mathlib.Core.Path.{◌≡◌, sym, ap, subst, ◌∙◌}
 use mathlib.Core.List.{List, ◌∷◌, ◌++◌}
-use Prim.Native.Nat.{ℕ, zero, suc, ◌+◌, ◌-◌, ◌*◌, ◌/◌, ◌%◌, ◌^◌, ◌≤◌, ◌<◌}
-use native.Mathlib.Nat.{pow-suc, one-le-pow, pow-le-pow_right, div-div-eq-div-mul, le-div_iff_mul-le, div-lt_iff_lt-mul, zero-lt-suc, not-suc-le-zero, le_of_suc-le-suc, lt_of_not-le}
+use Prim.Native.Nat.{ℕ, zero, suc, ◌+◌, ◌-◌, ◌/◌, ◌%◌, ◌≤◌, ◌<◌}
+use native.Mathlib.Nat.{not-suc-le-zero}
 use native.Mathlib.Numerals.{add-one, sub-one}
 use native.Mathlib.Omega.{arith}
 use borrow.Author.Tests.{lt-ltb}
 use lib.ListN.{length, take, drop, set}
 use lib.Seq.{slice, length-take-le, take-set-lt, append_snoc}
 use Rattle.std.proofs.lemmas.List.{drop-set}
-use Rattle.output.specs.Digits.{hex_digit_ascii, last_digits, IsDigitCount}
-
-pub over_more : (n k : ℕ) → n / 10 ^ k / 10 ≡ n / 10 ^ (k + 1)
-over_more n k = div-div-eq-div-mul n (10 ^ k) 10 ∙ ap (λ (d : ℕ). n / d) (sym (pow-suc 10 k) ∙ ap (λ (j : ℕ). 10 ^ j) (sym (add-one k)))
-
--- something is left of n after k digits, so one more is wanted
-pub one_more : (n k : ℕ) → 0 < n / 10 ^ k → 10 ^ (k + 1 - 1) ≤ n
-one_more n k some =
-    let e : k ≡ k + 1 - 1 = omega arith in
-    let p : 1 * 10 ^ k ≤ n = (le-div_iff_mul-le (one-le-pow k 10 (zero-lt-suc 9))).0 some in
-    subst (λ (j : ℕ). 10 ^ j ≤ n) e (omega arith)
-
--- nothing is left of n after k digits, so k digits hold it
-pub enough : (n k : ℕ) → n / 10 ^ k < 1 → n < 10 ^ k
-enough n k none =
-    let p : n < 1 * 10 ^ k = (div-lt_iff_lt-mul (one-le-pow k 10 (zero-lt-suc 9))).0 none in
-    omega arith
-
--- where `most` digits hold n, the fewest are no more
-pub no_more : (n k most : ℕ) → IsDigitCount 10 1 n k → 1 ≤ most → n < 10 ^ most → k ≤ most
-no_more n k most fewest some holds = le_of_suc-le-suc (lt_of_not-le above)
-  where
-    above : most < k → ⊥
-    above over =
-        let p : 10 ^ (k - 1) ≤ n = fewest.2 (omega arith) in
-        let q : 10 ^ most ≤ 10 ^ (k - 1) = pow-le-pow_right (zero-lt-suc 9) (omega arith) in
-        omega arith
+use Rattle.output.specs.Digits.{hex_digit_ascii, last_digits}
 
 -- a digit below ten
 pub low : (n : ℕ) → 48 + n % 10 ≡ hex_digit_ascii (n % 10)

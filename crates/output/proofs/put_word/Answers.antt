@@ -1,11 +1,8 @@
-use mathlib.Core.Path.{◌≡◌, ◌∙◌}
-use Prim.Native.Nat.{ℕ, ◌≤◌, ◌<◌, ◌+◌}
-use native.Mathlib.Omega.{arith}
-use mathlib.Core.List.{List}
+use Rattle.std.proofs.Common.{arith, refl, ◌∙◌, ◌≡◌, ◌+◌, ◌<◌, ◌≤◌, ℕ, List, length}
 use borrow.Author.Tests.{le-leb, lt-leb}
-use lib.ListN.{length}
-use lib.Seq.{paste}
 use Rattle.output.specs.Put.{put, after}
+use Rattle.std.proofs.Math.Seq.{paste}
+use Rattle.std.proofs.lemmas.Slice.{put_mid-paste}
 use Rattle.output.proofs.put_word.Goals as goal
 
 module _ (d : List ℕ) (n : ℕ) (w : List ℕ) where
@@ -17,11 +14,13 @@ module _ (d : List ℕ) (n : ℕ) (w : List ℕ) where
   unfolding put after
   unfit h = (simp (lt-leb _ _ h), simp (lt-leb _ _ h))
 
-pub returns-then-out-n : goal.returns-then-out-n
-returns-then-out-n c = unfit c.args.out.now c.args.n c.args.w.now (omega arith)
+pub returns-in_default : goal.returns-in_default
+returns-in_default c = unfit c.args.out.now c.args.n c.args.w.now (omega arith)
 
-pub returns-then-out-n-2 : goal.returns-then-out-n-2
-returns-then-out-n-2 c = unfit c.args.out.now c.args.n c.args.w.now (omega arith)
+pub returns-then-room-w : goal.returns-then-room-w
+returns-then-room-w c = unfit c.args.out.now c.args.n c.args.w.now (omega arith)
 
 pub returns : goal.returns
-returns c = let f = fitted c.args.out.now c.args.n c.args.w.now (omega arith) in (f.0, c.copy_at.ensures ∙ f.1)
+returns c =
+    let f = fitted c.args.out.now c.args.n c.args.w.now (omega arith) in
+    (f.0, put_mid-paste _ _ _ _ _ _ c.copy_from_slice.ensures.after (omega arith) refl ∙ f.1)
