@@ -2,29 +2,31 @@
 // A count goes in and comes back by value, or stands beside the buffer in a `Text`. What does not fit is not put at all (specs/Put.antt).
 #![tactic(auto)]
 
-ghost use Rattle.std.specs.Prelude.{◌≡◌, ◌+◌, ◌<◌, ◌≤◌, length, take};
-ghost use Rattle.std.proofs.Math.Seq.{paste};
+ghost use Rattle.std.specs.Prelude.{◌≡◌, ℕ, ◌+◌, ◌≤◌, length, SomeIff};
 ghost use Rattle.output.specs.Digits.{last_digits, IsDigitCount};
 ghost use Rattle.output.specs.Put.{put, after, Decimal};
+
+// The place after `more` bytes at n, where they fit into `len` bytes.
+fn end_within(len: usize, n: usize, more: usize) -> Option<usize>
+    ensures { SomeIff result (n + more ≤ len) (n + more) }
+{
+    n.checked_add(more).filter(|&end| end <= len)
+}
 
 // Copies w into out from n on and answers the place after it; where it does not fit, writes nothing and answers n.
 pub fn put_word(out: &mut [u8], n: usize, w: &[u8]) -> usize
     ensures { (result ≡ after out.old n w.now) × (out.new ≡ put out.old n w.now) }
 {
-    let Some(room) = out.len().checked_sub(n) else {
+    let Some(end) = end_within(out.len(), n, w.len()) else {
         return n;
     };
-    if room < w.len() {
-        return n;
-    }
-    out[n..n + w.len()].copy_from_slice(w);
-    n + w.len()
+    out[n..end].copy_from_slice(w);
+    end
 }
 
 // How many decimal digits x has, of which 0 has one.
 fn digit_count(x: u64) -> usize
-    ensures within { result ≤ 20 }
-    ensures fewest { IsDigitCount 10 1 x result }
+    ensures { IsDigitCount 10 1 x result }
 {
     match x.checked_ilog10() {
         Some(power) => power as usize + 1,
@@ -32,36 +34,26 @@ fn digit_count(x: u64) -> usize
     }
 }
 
-// Puts the last k decimal digits of x at the start of out.
-fn put_digits(out: &mut [u8], k: usize, x: u64)
-    requires { k ≤ length out.old }
-    ensures { take k out.new ≡ last_digits 10 k x }
+// Fills out with x's last decimal digits.
+fn put_digits(out: &mut [u8], x: u64)
+    ensures { (k : ℕ) → k ≡ length out.old → out.new ≡ last_digits 10 k x }
 {
     let mut rest = x;
-    for i in (0..k).rev() {
+    for i in (0..out.len()).rev() {
         out[i] = b'0' + (rest % 10) as u8;
         rest /= 10;
     }
-}
-
-// Puts x's decimal digits at the start of text, and answers how many there are.
-fn decimal(x: u64, text: &mut [u8; 20]) -> usize
-    ensures within { result ≤ length text.new }
-    ensures fewest { IsDigitCount 10 1 x result }
-    ensures digits { take result text.new ≡ last_digits 10 result x }
-{
-    let k = digit_count(x);
-    put_digits(text, k, x);
-    k
 }
 
 // The same as `put_word`, of x's decimal digits.
 pub fn put_decimal(out: &mut [u8], n: usize, x: u64) -> usize
     ensures { Decimal out.old n x result out.new }
 {
-    let mut text = [0u8; 20];
-    let k = decimal(x, &mut text);
-    put_word(out, n, &text[..k])
+    let Some(end) = end_within(out.len(), n, digit_count(x)) else {
+        return n;
+    };
+    put_digits(&mut out[n..end], x);
+    end
 }
 
 // A lent buffer and how much of it is filled.
