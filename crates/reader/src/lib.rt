@@ -30,7 +30,7 @@ pub struct State {
 }
 
 // 23: the buffer's length is not from 64 to 65,536.
-#[derive(Clone, Copy)]
+#[derive(Clone, Copy, Debug, PartialEq, Eq)]
 pub struct BufferLength;
 
 // What opening answers, and the state of the stream.
@@ -41,7 +41,7 @@ pub struct Opened {
 }
 
 // Why nothing of a piece is taken.
-#[derive(Clone, Copy)]
+#[derive(Clone, Copy, Debug, PartialEq, Eq)]
 pub enum NotTaken {
     // 28: state and buffer do not belong together.
     StrangeState,
@@ -52,11 +52,11 @@ pub enum NotTaken {
 }
 
 // 28: state and buffer do not belong together.
-#[derive(Clone, Copy)]
+#[derive(Clone, Copy, Debug, PartialEq, Eq)]
 pub struct StrangeState;
 
 // A record's mark.
-#[derive(Clone, Copy)]
+#[derive(Clone, Copy, Debug, PartialEq, Eq)]
 pub enum Mark {
     Row,
     Control,
@@ -76,7 +76,7 @@ impl Mark {
 }
 
 // What next finds.
-#[derive(Clone, Copy)]
+#[derive(Clone, Copy, Debug, PartialEq, Eq)]
 pub enum Found {
     // A record, by its place and length in the buffer and its stream offset.
     Record {
