@@ -5,92 +5,77 @@ use Prim.Native.Nat.{ℕ, ◌≤◌, ◌<◌}
 use lib.Dec.{eqb, lit≤}
 use Rattle.refusal.specs.Numbers.{bad_byte, too_deep, not_string, malformed_record, cut_short, record_too_long, buffer_length, after_closing, offset_too_high, beyond_slice, short_output, strange_state}
 use Rattle.refusal.specs.Paper.{Paper, refused, pick}
-use Rattle.refusal.specs.Meaning.{number_of, place_of, refusal_meaning, named_by, moved_to, call_number_of}
+use Rattle.refusal.specs.Meaning.{why_number, why_of, refusal_at, number_of, place_of, refusal_meaning, named_by, moved_to, call_number_of}
 use Rattle.refusal.specs.declared.Refusal.{Refusal}
-use Rattle.refusal.specs.declared.Refusal.TheVariants.{BadByte, NegativeLength, LongVarint, WideVarint, BadHexEscape, BadUint64, BadDouble, BadInt64, UnknownWord, NotValue, NotKey, NotEquals, TooDeep}
+use Rattle.refusal.specs.declared.Why.{Why}
+use Rattle.refusal.specs.declared.Why.TheVariants.{BadByte, NegativeLength, LongVarint, WideVarint, BadHexEscape, BadUint64, BadDouble, BadInt64, UnknownWord, NotValue, NotKey, NotEquals, TooDeep}
 use Rattle.refusal.specs.declared.Cause.{Cause}
 use Rattle.refusal.specs.declared.Cause.TheVariants.{NotString, MalformedRecord, CutShort, RecordTooLong, BufferLength, AfterClosing, OffsetTooHigh, BeyondSlice, ShortOutput, StrangeState, BadCall}
 
+-- what is wrong is that of its number
+why_again : (w : Why) → why_of (why_number w) ≡ w
+unfolding why_of
+why_again BadByte = refl
+why_again NegativeLength = refl
+why_again LongVarint = refl
+why_again WideVarint = refl
+why_again BadHexEscape = refl
+why_again BadUint64 = refl
+why_again BadDouble = refl
+why_again BadInt64 = refl
+why_again UnknownWord = refl
+why_again NotValue = refl
+why_again NotKey = refl
+why_again NotEquals = refl
+why_again TooDeep = refl
+
 -- a refusal is the one of its number at its place
 pub named_by_its_number : (r : Refusal) → named_by (number_of r) (place_of r) ≡ r
-unfolding named_by
-named_by_its_number (BadByte p) = refl
-named_by_its_number (NegativeLength p) = refl
-named_by_its_number (LongVarint p) = refl
-named_by_its_number (WideVarint p) = refl
-named_by_its_number (BadHexEscape p) = refl
-named_by_its_number (BadUint64 p) = refl
-named_by_its_number (BadDouble p) = refl
-named_by_its_number (BadInt64 p) = refl
-named_by_its_number (UnknownWord p) = refl
-named_by_its_number (NotValue p) = refl
-named_by_its_number (NotKey p) = refl
-named_by_its_number (NotEquals p) = refl
-named_by_its_number (TooDeep p) = refl
+named_by_its_number r = ap (λ w. refusal_at w r.place) (why_again r.why)
 
 -- moving a refusal changes its place alone
 pub moved_number : (q : ℕ) (r : Refusal) → number_of (moved_to q r) ≡ number_of r
-unfolding named_by
-moved_number q (BadByte p) = refl
-moved_number q (NegativeLength p) = refl
-moved_number q (LongVarint p) = refl
-moved_number q (WideVarint p) = refl
-moved_number q (BadHexEscape p) = refl
-moved_number q (BadUint64 p) = refl
-moved_number q (BadDouble p) = refl
-moved_number q (BadInt64 p) = refl
-moved_number q (UnknownWord p) = refl
-moved_number q (NotValue p) = refl
-moved_number q (NotKey p) = refl
-moved_number q (NotEquals p) = refl
-moved_number q (TooDeep p) = refl
+moved_number q r = refl
 
 pub moved_place : (q : ℕ) (r : Refusal) → place_of (moved_to q r) ≡ q
-unfolding named_by
-moved_place q (BadByte p) = refl
-moved_place q (NegativeLength p) = refl
-moved_place q (LongVarint p) = refl
-moved_place q (WideVarint p) = refl
-moved_place q (BadHexEscape p) = refl
-moved_place q (BadUint64 p) = refl
-moved_place q (BadDouble p) = refl
-moved_place q (BadInt64 p) = refl
-moved_place q (UnknownWord p) = refl
-moved_place q (NotValue p) = refl
-moved_place q (NotKey p) = refl
-moved_place q (NotEquals p) = refl
-moved_place q (TooDeep p) = refl
+moved_place q r = refl
 
 -- the numbers of refusals are 1 to 13
+from_one : (w : Why) → bad_byte ≤ why_number w
+from_one BadByte = lit≤ tt
+from_one NegativeLength = lit≤ tt
+from_one LongVarint = lit≤ tt
+from_one WideVarint = lit≤ tt
+from_one BadHexEscape = lit≤ tt
+from_one BadUint64 = lit≤ tt
+from_one BadDouble = lit≤ tt
+from_one BadInt64 = lit≤ tt
+from_one UnknownWord = lit≤ tt
+from_one NotValue = lit≤ tt
+from_one NotKey = lit≤ tt
+from_one NotEquals = lit≤ tt
+from_one TooDeep = lit≤ tt
+
 pub number_from : (r : Refusal) → bad_byte ≤ number_of r
-number_from (BadByte p) = lit≤ tt
-number_from (NegativeLength p) = lit≤ tt
-number_from (LongVarint p) = lit≤ tt
-number_from (WideVarint p) = lit≤ tt
-number_from (BadHexEscape p) = lit≤ tt
-number_from (BadUint64 p) = lit≤ tt
-number_from (BadDouble p) = lit≤ tt
-number_from (BadInt64 p) = lit≤ tt
-number_from (UnknownWord p) = lit≤ tt
-number_from (NotValue p) = lit≤ tt
-number_from (NotKey p) = lit≤ tt
-number_from (NotEquals p) = lit≤ tt
-number_from (TooDeep p) = lit≤ tt
+number_from r = from_one r.why
+
+to_last : (w : Why) → why_number w ≤ too_deep
+to_last BadByte = lit≤ tt
+to_last NegativeLength = lit≤ tt
+to_last LongVarint = lit≤ tt
+to_last WideVarint = lit≤ tt
+to_last BadHexEscape = lit≤ tt
+to_last BadUint64 = lit≤ tt
+to_last BadDouble = lit≤ tt
+to_last BadInt64 = lit≤ tt
+to_last UnknownWord = lit≤ tt
+to_last NotValue = lit≤ tt
+to_last NotKey = lit≤ tt
+to_last NotEquals = lit≤ tt
+to_last TooDeep = lit≤ tt
 
 pub number_to : (r : Refusal) → number_of r ≤ too_deep
-number_to (BadByte p) = lit≤ tt
-number_to (NegativeLength p) = lit≤ tt
-number_to (LongVarint p) = lit≤ tt
-number_to (WideVarint p) = lit≤ tt
-number_to (BadHexEscape p) = lit≤ tt
-number_to (BadUint64 p) = lit≤ tt
-number_to (BadDouble p) = lit≤ tt
-number_to (BadInt64 p) = lit≤ tt
-number_to (UnknownWord p) = lit≤ tt
-number_to (NotValue p) = lit≤ tt
-number_to (NotKey p) = lit≤ tt
-number_to (NotEquals p) = lit≤ tt
-number_to (TooDeep p) = lit≤ tt
+number_to r = to_last r.why
 
 -- two refusals with one number and one place are one
 pub same_refusal : (r q : Refusal) → number_of r ≡ number_of q → place_of r ≡ place_of q → r ≡ q

@@ -4,10 +4,10 @@
 #![tactic(auto)]
 
 ghost use Rattle.std.specs.Prelude.{◌≡◌};
-ghost use Rattle.refusal.specs.Meaning.{number_of, place_of, moved_to, named_by, call_number_of};
+ghost use Rattle.refusal.specs.Meaning.{why_number, why_of, refusal_at, number_of, place_of, moved_to, named_by, unread_at, call_number_of};
 
 // The two ways YSON is written.
-#[derive(Clone, Copy)]
+#[derive(Clone, Copy, Debug, PartialEq, Eq)]
 pub enum Format {
     Binary,
     Text,
@@ -61,35 +61,72 @@ pub const STRANGE_STATE: usize = 28;
 
 pub const BAD_CALL: usize = 29;
 
-// What is wrong with the bytes themselves, and where.
-#[derive(Clone, Copy)]
-pub enum Refusal {
+// What is wrong with the bytes themselves.
+#[derive(Clone, Copy, Debug, PartialEq, Eq)]
+pub enum Why {
     // 1: a byte that starts no token.
-    BadByte { place: usize },
+    BadByte,
     // 2: a string's length is below zero.
-    NegativeLength { place: usize },
+    NegativeLength,
     // 3: an eleventh varint byte is present after ten with the top bit set.
-    LongVarint { place: usize },
+    LongVarint,
     // 4: the tenth varint byte has low seven bits above 1.
-    WideVarint { place: usize },
+    WideVarint,
     // 5: what stands after `\x` is no hex number of two bytes.
-    BadHexEscape { place: usize },
+    BadHexEscape,
     // 6: text that ends in `u` and is no uint64.
-    BadUint64 { place: usize },
+    BadUint64,
     // 7: text with a point or an exponent that is no double.
-    BadDouble { place: usize },
+    BadDouble,
     // 8: other number text that is no int64.
-    BadInt64 { place: usize },
+    BadInt64,
     // 9: none of the words that may stand after `%`.
-    UnknownWord { place: usize },
+    UnknownWord,
     // 10: a token where a value is due that starts none.
-    NotValue { place: usize },
+    NotValue,
     // 11: a token where a key is due that is no string.
-    NotKey { place: usize },
+    NotKey,
     // 12: a token other than `=` after a key.
-    NotEquals { place: usize },
+    NotEquals,
     // 13: a block that would be the 129th open.
-    TooDeep { place: usize },
+    TooDeep,
+}
+
+impl Why {
+    // The paper's number of what is wrong.
+    pub fn number(self) -> usize
+        ensures { result ≡ why_number self }
+    {
+        match self {
+            Why::BadByte => BAD_BYTE,
+            Why::NegativeLength => NEGATIVE_LENGTH,
+            Why::LongVarint => LONG_VARINT,
+            Why::WideVarint => WIDE_VARINT,
+            Why::BadHexEscape => BAD_HEX_ESCAPE,
+            Why::BadUint64 => BAD_UINT64,
+            Why::BadDouble => BAD_DOUBLE,
+            Why::BadInt64 => BAD_INT64,
+            Why::UnknownWord => UNKNOWN_WORD,
+            Why::NotValue => NOT_VALUE,
+            Why::NotKey => NOT_KEY,
+            Why::NotEquals => NOT_EQUALS,
+            Why::TooDeep => TOO_DEEP,
+        }
+    }
+
+    // The refusal for this at a place.
+    pub fn at(self, place: usize) -> Refusal
+        ensures { result ≡ refusal_at self place }
+    {
+        Refusal { why: self, place }
+    }
+}
+
+// What is wrong with the bytes themselves, and where.
+#[derive(Clone, Copy, Debug, PartialEq, Eq)]
+pub struct Refusal {
+    pub why: Why,
+    pub place: usize,
 }
 
 impl Refusal {
@@ -97,49 +134,42 @@ impl Refusal {
     pub fn number(self) -> usize
         ensures { result ≡ number_of self }
     {
-        match self {
-            Refusal::BadByte { place: _ } => BAD_BYTE,
-            Refusal::NegativeLength { place: _ } => NEGATIVE_LENGTH,
-            Refusal::LongVarint { place: _ } => LONG_VARINT,
-            Refusal::WideVarint { place: _ } => WIDE_VARINT,
-            Refusal::BadHexEscape { place: _ } => BAD_HEX_ESCAPE,
-            Refusal::BadUint64 { place: _ } => BAD_UINT64,
-            Refusal::BadDouble { place: _ } => BAD_DOUBLE,
-            Refusal::BadInt64 { place: _ } => BAD_INT64,
-            Refusal::UnknownWord { place: _ } => UNKNOWN_WORD,
-            Refusal::NotValue { place: _ } => NOT_VALUE,
-            Refusal::NotKey { place: _ } => NOT_KEY,
-            Refusal::NotEquals { place: _ } => NOT_EQUALS,
-            Refusal::TooDeep { place: _ } => TOO_DEEP,
-        }
+        self.why.number()
     }
 
     // The place that a refusal carries.
     pub fn place(self) -> usize
         ensures { result ≡ place_of self }
     {
-        match self {
-            Refusal::BadByte { place } => place,
-            Refusal::NegativeLength { place } => place,
-            Refusal::LongVarint { place } => place,
-            Refusal::WideVarint { place } => place,
-            Refusal::BadHexEscape { place } => place,
-            Refusal::BadUint64 { place } => place,
-            Refusal::BadDouble { place } => place,
-            Refusal::BadInt64 { place } => place,
-            Refusal::UnknownWord { place } => place,
-            Refusal::NotValue { place } => place,
-            Refusal::NotKey { place } => place,
-            Refusal::NotEquals { place } => place,
-            Refusal::TooDeep { place } => place,
-        }
+        self.place
     }
 
     // The same refusal at another place: a token's refusal stands at the token, also where a varint inside it was refused.
     pub fn moved(self, to: usize) -> Refusal
         ensures { result ≡ moved_to to self }
     {
-        refusal_of(self.number(), to)
+        self.why.at(to)
+    }
+}
+
+// What is wrong by its number from 1 to 13. (Any other number gives the last of them.)
+fn why_of(number: usize) -> Why
+    ensures { result ≡ why_of number }
+{
+    match number {
+        BAD_BYTE => Why::BadByte,
+        NEGATIVE_LENGTH => Why::NegativeLength,
+        LONG_VARINT => Why::LongVarint,
+        WIDE_VARINT => Why::WideVarint,
+        BAD_HEX_ESCAPE => Why::BadHexEscape,
+        BAD_UINT64 => Why::BadUint64,
+        BAD_DOUBLE => Why::BadDouble,
+        BAD_INT64 => Why::BadInt64,
+        UNKNOWN_WORD => Why::UnknownWord,
+        NOT_VALUE => Why::NotValue,
+        NOT_KEY => Why::NotKey,
+        NOT_EQUALS => Why::NotEquals,
+        _ => Why::TooDeep,
     }
 }
 
@@ -147,25 +177,43 @@ impl Refusal {
 pub fn refusal_of(number: usize, place: usize) -> Refusal
     ensures { result ≡ named_by number place }
 {
-    match number {
-        BAD_BYTE => Refusal::BadByte { place },
-        NEGATIVE_LENGTH => Refusal::NegativeLength { place },
-        LONG_VARINT => Refusal::LongVarint { place },
-        WIDE_VARINT => Refusal::WideVarint { place },
-        BAD_HEX_ESCAPE => Refusal::BadHexEscape { place },
-        BAD_UINT64 => Refusal::BadUint64 { place },
-        BAD_DOUBLE => Refusal::BadDouble { place },
-        BAD_INT64 => Refusal::BadInt64 { place },
-        UNKNOWN_WORD => Refusal::UnknownWord { place },
-        NOT_VALUE => Refusal::NotValue { place },
-        NOT_KEY => Refusal::NotKey { place },
-        NOT_EQUALS => Refusal::NotEquals { place },
-        _ => Refusal::TooDeep { place },
+    why_of(number).at(place)
+}
+
+// Why nothing was read at a place.
+#[derive(Clone, Copy, Debug, PartialEq, Eq)]
+pub enum Unread {
+    // The bytes ended before it or inside it.
+    Incomplete,
+    // The bytes are none.
+    Refused(Refusal),
+    // 26: the place lies beyond the slice.
+    Beyond,
+}
+
+impl Unread {
+    // The same with a refusal at another place.
+    pub fn moved(self, to: usize) -> Unread
+        ensures { result ≡ unread_at to self }
+    {
+        match self {
+            Unread::Refused(refusal) => Unread::Refused(refusal.moved(to)),
+            Unread::Incomplete | Unread::Beyond => self,
+        }
     }
 }
 
+// Why there is no whole value.
+#[derive(Clone, Copy, Debug, PartialEq, Eq)]
+pub enum Unwhole {
+    // The bytes ended inside it, or before it.
+    Incomplete,
+    // The bytes are none.
+    Refused(Refusal),
+}
+
 // Why a call is refused whose bytes may be well: each answer enum has these as cases of its own, with the values that it carries.
-#[derive(Clone, Copy)]
+#[derive(Clone, Copy, Debug, PartialEq, Eq)]
 pub enum Cause {
     // 14: string bytes are wanted and the token is no string.
     NotString,

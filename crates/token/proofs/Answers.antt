@@ -1,6 +1,6 @@
 -- No two answers about a token mean the same: from what an answer means the answer is found again. Assumes nothing.
 use mathlib.Core.Path.{◌≡◌, refl, sym, ap, ◌∙◌}
-use mathlib.Core.List.{[], ◌∷◌}
+use mathlib.Core.List.{List, [], ◌∷◌}
 use Prim.Native.Nat.{ℕ}
 use lib.Dec.{eqb}
 use Rattle.refusal.specs.Numbers.{not_string, beyond_slice}
@@ -10,41 +10,47 @@ use Rattle.refusal.proofs.Laws.{named_by_its_number}
 use Rattle.token.specs.Meaning.{read_meaning}
 use Rattle.token.specs.Strings.{unescaped_meaning}
 use Rattle.token.specs.declared.Token.{Token}
-use Rattle.token.specs.declared.Read.{Read}
-use Rattle.token.specs.declared.Read.TheVariants as r
-use Rattle.token.specs.declared.Unescaped.{Unescaped}
-use Rattle.token.specs.declared.Unescaped.TheVariants as u
+use Rattle.refusal.specs.declared.Unread.{Unread}
+use Rattle.refusal.specs.declared.Unread.TheVariants as u
+use Rattle.token.specs.declared.Placed.{Placed}
+use Rattle.token.specs.declared.Copied.{Copied}
+use Rattle.token.specs.declared.NoBytes.{NoBytes}
+use Rattle.token.specs.declared.NoBytes.TheVariants as none
+use Rattle.std.specs.Prelude.{Result, Ok, Err}
 
-read_of : Paper (Spot Token) → Read
-read_of (gives (spot t first next)) = r.Token t first next
-read_of more = r.Incomplete
-read_of (refused n []) = r.Beyond
-read_of (refused n (p ∷ ps)) = r.Refused (named_by n p)
+unread_of : ℕ → List ℕ → Unread
+unread_of n [] = u.Beyond
+unread_of n (p ∷ ps) = u.Refused (named_by n p)
 
-read_again : (a : Read) → read_of (read_meaning a) ≡ a
-unfolding read_of
-read_again (r.Token t first next) = refl
-read_again r.Incomplete = refl
-read_again (r.Refused x) = ap r.Refused (named_by_its_number x)
-read_again r.Beyond = refl
+read_of : Paper (Spot Token) → Result Placed Unread
+read_of (gives (spot t first next)) = Ok (record { token = t; first = first; next = next })
+read_of more = Err u.Incomplete
+read_of (refused n vs) = Err (unread_of n vs)
 
-pub read_injective : (a b : Read) → read_meaning a ≡ read_meaning b → a ≡ b
+read_again : (a : Result Placed Unread) → read_of (read_meaning a) ≡ a
+unfolding read_of unread_of
+read_again (Ok p) = refl
+read_again (Err u.Incomplete) = refl
+read_again (Err (u.Refused x)) = ap (λ y. Err (u.Refused y)) (named_by_its_number x)
+read_again (Err u.Beyond) = refl
+
+pub read_injective : (a b : Result Placed Unread) → read_meaning a ≡ read_meaning b → a ≡ b
 read_injective a b e = sym (read_again a) ∙ ap read_of e ∙ read_again b
 
-unescaped_of : Paper (Got ℕ) → Unescaped
-unescaped_of (gives (got count next)) = u.Bytes count next
-unescaped_of more = u.Incomplete
-unescaped_of (refused n []) = pick (eqb n beyond_slice) u.Beyond (pick (eqb n not_string) u.NotString u.Short)
-unescaped_of (refused n (p ∷ ps)) = u.Refused (named_by n p)
+unescaped_of : Paper (Got ℕ) → Result Copied NoBytes
+unescaped_of (gives (got count next)) = Ok (record { count = count; next = next })
+unescaped_of more = Err (none.Unread u.Incomplete)
+unescaped_of (refused n []) = Err (pick (eqb n beyond_slice) (none.Unread u.Beyond) (pick (eqb n not_string) none.NotString none.Short))
+unescaped_of (refused n (p ∷ ps)) = Err (none.Unread (u.Refused (named_by n p)))
 
-unescaped_again : (a : Unescaped) → unescaped_of (unescaped_meaning a) ≡ a
+unescaped_again : (a : Result Copied NoBytes) → unescaped_of (unescaped_meaning a) ≡ a
 unfolding unescaped_of
-unescaped_again (u.Bytes count next) = refl
-unescaped_again u.Incomplete = refl
-unescaped_again (u.Refused x) = ap u.Refused (named_by_its_number x)
-unescaped_again u.Beyond = refl
-unescaped_again u.NotString = refl
-unescaped_again u.Short = refl
+unescaped_again (Ok c) = refl
+unescaped_again (Err (none.Unread u.Incomplete)) = refl
+unescaped_again (Err (none.Unread (u.Refused x))) = ap (λ y. Err (none.Unread (u.Refused y))) (named_by_its_number x)
+unescaped_again (Err (none.Unread u.Beyond)) = refl
+unescaped_again (Err none.NotString) = refl
+unescaped_again (Err none.Short) = refl
 
-pub unescaped_injective : (a b : Unescaped) → unescaped_meaning a ≡ unescaped_meaning b → a ≡ b
+pub unescaped_injective : (a b : Result Copied NoBytes) → unescaped_meaning a ≡ unescaped_meaning b → a ≡ b
 unescaped_injective a b e = sym (unescaped_again a) ∙ ap unescaped_of e ∙ unescaped_again b

@@ -9,8 +9,7 @@ use lib.Dec.{lit≤}
 use Rattle.refusal.specs.Numbers.{bad_byte, unknown_word}
 use Rattle.refusal.specs.Paper.{Paper, gives, more, refused, Spot, spot, pick}
 use Rattle.token.specs.declared.Token.{Token}
-use Rattle.token.specs.declared.Mark.{Mark}
-use Rattle.token.specs.declared.Mark.TheVariants.{Is, Not}
+use Rattle.std.specs.Prelude.{Option, Some, None}
 use Rattle.token.specs.Marks.{of_mark}
 
 -- of an answer about the token at a place, among so many bytes
@@ -27,6 +26,6 @@ module _ (length at : ℕ) where
   pub one_sound : at < length → (t : Token) → Sound length at (gives (spot t at (at + 1)))
   one_sound h t = (refl, omega arith, omega arith)
 
-  pub mark_sound : at < length → (m : Mark) → Sound length at (of_mark at m)
-  mark_sound h (Is t) = one_sound h t
-  mark_sound h Not = (lit≤ tt, lit≤ tt, refl)
+  pub mark_sound : at < length → (m : Option Token) → Sound length at (of_mark at m)
+  mark_sound h (Some t) = one_sound h t
+  mark_sound h None = (lit≤ tt, lit≤ tt, refl)

@@ -1,23 +1,31 @@
 -- Asking for a string's bytes: the answer, and what the output holds afterwards. Each format says which bytes stand at a place.
-use Rattle.std.specs.Prelude.{ℕ, List, [], ◌++◌, ltb, length, take, drop}
-use Rattle.refusal.specs.Numbers.{not_string, beyond_slice, short_output}
+use Rattle.std.specs.Prelude.{ℕ, List, [], ◌++◌, ltb, length, take, drop, Option, Some, None, Result, Ok, Err}
+use Rattle.refusal.specs.Numbers.{not_string, short_output}
 use Rattle.refusal.specs.Paper.{Paper, gives, more, refused, Got, got, Spot, spot, pick}
-use Rattle.refusal.specs.Meaning.{refusal_meaning}
+use Rattle.refusal.specs.Meaning.{unread_meaning}
 use Rattle.token.specs.declared.Token.{Token}
 use Rattle.token.specs.declared.Extent.{Extent}
-use Rattle.token.specs.declared.Extent.TheVariants.{Plain, Quoted, None}
+use Rattle.token.specs.declared.Extent.TheVariants.{Plain, Quoted}
 use Rattle.token.specs.Meaning.{extent_of}
-use Rattle.token.specs.declared.Unescaped.{Unescaped}
-use Rattle.token.specs.declared.Unescaped.TheVariants.{Bytes, Incomplete, Refused, Beyond, NotString, Short}
+use Rattle.refusal.specs.declared.Unread.{Unread}
+use Rattle.token.specs.declared.Copied.{Copied}
+use Rattle.token.specs.declared.NoBytes.{NoBytes}
+use Rattle.token.specs.declared.NoBytes.TheVariants as none
+
+-- none were written, since no token was read
+abbrev pub none_read : Unread → NoBytes
+none_read e = none.Unread e
+
+-- why none were written: no token was read, 14, or 27
+abbrev pub no_bytes_meaning : {A : Type 0} → NoBytes → Paper A
+no_bytes_meaning (none.Unread e) = unread_meaning e
+no_bytes_meaning none.NotString = refused not_string []
+no_bytes_meaning none.Short = refused short_output []
 
 -- how many bytes were written and the place after the token, more bytes are needed, or a refusal
-abbrev pub unescaped_meaning : Unescaped → Paper (Got ℕ)
-unescaped_meaning (Bytes count next) = gives (got count next)
-unescaped_meaning Incomplete = more
-unescaped_meaning (Refused r) = refusal_meaning r
-unescaped_meaning Beyond = refused beyond_slice []
-unescaped_meaning NotString = refused not_string []
-unescaped_meaning Short = refused short_output []
+abbrev pub unescaped_meaning : Result Copied NoBytes → Paper (Got ℕ)
+unescaped_meaning (Ok c) = gives (got c.count c.next)
+unescaped_meaning (Err e) = no_bytes_meaning e
 
 -- the answer for a string at a place (its bytes and the place after it, or why there is none) and an output of so many bytes:
 -- 27 comes last
@@ -34,9 +42,9 @@ bytes_written more out = out
 bytes_written (refused n vs) out = out
 
 -- the bytes of a string that stands in the input as it is, and the place after it; 14 for any other token
-abbrev pub string_of : List ℕ → ℕ → Extent → Paper (Got (List ℕ))
-string_of s next (Plain start len) = gives (got (take len (drop start s)) next)
-string_of s next (Quoted start len) = refused not_string []
+abbrev pub string_of : List ℕ → ℕ → Option Extent → Paper (Got (List ℕ))
+string_of s next (Some (Plain start len)) = gives (got (take len (drop start s)) next)
+string_of s next (Some (Quoted start len)) = refused not_string []
 string_of s next None = refused not_string []
 
 -- 26 and the token's own answer go before 14

@@ -6,7 +6,7 @@ ghost use Rattle.std.specs.Prelude.{◌≡◌};
 ghost use Rattle.token.specs.Meaning.{read_meaning, kind_of, extent_of};
 ghost use Rattle.token.specs.Marks.{mark_of, mark_at};
 
-use refusal::Refusal;
+use refusal::{Unread, Why};
 
 #[derive(Clone, Copy)]
 pub enum Token {
@@ -42,7 +42,7 @@ pub enum Token {
 }
 
 // What a token is to the scan, which asks for no value.
-#[derive(Clone, Copy)]
+#[derive(Clone, Copy, Debug, PartialEq, Eq)]
 pub enum Kind {
     Text,
     Scalar,
@@ -57,38 +57,23 @@ pub enum Kind {
 }
 
 // Where the bytes of a string stand.
-#[derive(Clone, Copy)]
+#[derive(Clone, Copy, Debug, PartialEq, Eq)]
 pub enum Extent {
     // They are the input's own.
     Plain { start: usize, len: usize },
     // They stand between quotes, with escapes to undo.
     Quoted { start: usize, len: usize },
-    // The token is no string.
-    None,
 }
 
 impl Token {
-    // Where the bytes of a string token stand.
-    pub fn extent(self) -> Extent
+    // Where the bytes of a string token stand; no other token has any.
+    pub fn extent(self) -> Option<Extent>
         ensures { result ≡ extent_of self }
     {
         match self {
-            Token::BeginAttributes => Extent::None,
-            Token::EndAttributes => Extent::None,
-            Token::BeginList => Extent::None,
-            Token::EndList => Extent::None,
-            Token::BeginMap => Extent::None,
-            Token::EndMap => Extent::None,
-            Token::String { start, len } => Extent::Plain { start, len },
-            Token::Escaped { start, len } => Extent::Quoted { start, len },
-            Token::Int64(_) => Extent::None,
-            Token::Uint64(_) => Extent::None,
-            Token::Double { value: _, bits: _ } => Extent::None,
-            Token::Decimal { start: _, len: _ } => Extent::None,
-            Token::Boolean(_) => Extent::None,
-            Token::Entity => Extent::None,
-            Token::KeyValueSeparator => Extent::None,
-            Token::ItemSeparator => Extent::None,
+            Token::String { start, len } => Some(Extent::Plain { start, len }),
+            Token::Escaped { start, len } => Some(Extent::Quoted { start, len }),
+            _ => None,
         }
     }
 
@@ -103,117 +88,95 @@ impl Token {
             Token::EndList => Kind::CloseList,
             Token::BeginMap => Kind::OpenMap,
             Token::EndMap => Kind::CloseMap,
-            Token::String { start: _, len: _ } => Kind::Text,
-            Token::Escaped { start: _, len: _ } => Kind::Text,
-            Token::Int64(_) => Kind::Scalar,
-            Token::Uint64(_) => Kind::Scalar,
-            Token::Double { value: _, bits: _ } => Kind::Scalar,
-            Token::Decimal { start: _, len: _ } => Kind::Scalar,
-            Token::Boolean(_) => Kind::Scalar,
-            Token::Entity => Kind::Scalar,
+            Token::String { .. } | Token::Escaped { .. } => Kind::Text,
             Token::KeyValueSeparator => Kind::Equals,
             Token::ItemSeparator => Kind::Semicolon,
+            Token::Int64(_)
+            | Token::Uint64(_)
+            | Token::Double { .. }
+            | Token::Decimal { .. }
+            | Token::Boolean(_)
+            | Token::Entity => Kind::Scalar,
         }
     }
 }
 
-// Whether a byte is a token by itself, in both formats alike.
-#[derive(Clone, Copy)]
-pub enum Mark {
-    Is { token: Token },
-    Not,
-}
-
-// The token that a byte is by itself: one of `# < > [ ] { } = ;`.
-fn mark_of(b: u8) -> Mark
+// The token that a byte is by itself, in both formats alike: one of `# < > [ ] { } = ;`.
+fn mark_of(b: u8) -> Option<Token>
     ensures { result ≡ mark_of b }
 {
     match b {
-        b'#' => Mark::Is {
-            token: Token::Entity,
-        },
-        b';' => Mark::Is {
-            token: Token::ItemSeparator,
-        },
-        b'<' => Mark::Is {
-            token: Token::BeginAttributes,
-        },
-        b'=' => Mark::Is {
-            token: Token::KeyValueSeparator,
-        },
-        b'>' => Mark::Is {
-            token: Token::EndAttributes,
-        },
-        b'[' => Mark::Is {
-            token: Token::BeginList,
-        },
-        b']' => Mark::Is {
-            token: Token::EndList,
-        },
-        b'{' => Mark::Is {
-            token: Token::BeginMap,
-        },
-        b'}' => Mark::Is {
-            token: Token::EndMap,
-        },
-        _ => Mark::Not,
+        b'#' => Some(Token::Entity),
+        b';' => Some(Token::ItemSeparator),
+        b'<' => Some(Token::BeginAttributes),
+        b'=' => Some(Token::KeyValueSeparator),
+        b'>' => Some(Token::EndAttributes),
+        b'[' => Some(Token::BeginList),
+        b']' => Some(Token::EndList),
+        b'{' => Some(Token::BeginMap),
+        b'}' => Some(Token::EndMap),
+        _ => None,
     }
 }
 
-// What reading a token at a place answers.
+// A token, the place of its first byte (behind blanks and comments), and the place after its last.
 #[derive(Clone, Copy)]
-pub enum Read {
-    // A token, the place of its first byte (behind blanks and comments), and the place after its last.
-    Token {
-        token: Token,
-        first: usize,
-        next: usize,
-    },
-    // The bytes ended before a token or inside one.
-    Incomplete,
-    // The bytes are no token.
-    Refused {
-        refusal: Refusal,
-    },
-    // 26: the place lies beyond the slice.
-    Beyond,
+pub struct Placed {
+    pub token: Token,
+    pub first: usize,
+    pub next: usize,
 }
+
+// What reading a token at a place answers.
+pub type Read = Result<Placed, Unread>;
 
 // The token at a place where marks are the only tokens.
 pub fn mark_at(input: &[u8], at: usize) -> Read
     ensures { read_meaning result ≡ mark_at input.now at }
 {
     if input.len() < at {
-        return Read::Beyond;
+        return Err(Unread::Beyond);
     }
-    if input.len() <= at {
-        return Read::Incomplete;
+    if input.len() == at {
+        return Err(Unread::Incomplete);
     }
     match mark_of(input[at]) {
-        Mark::Is { token } => Read::Token {
+        Some(token) => Ok(Placed {
             token,
             first: at,
             next: at + 1,
-        },
-        Mark::Not => Read::Refused {
-            refusal: Refusal::BadByte { place: at },
-        },
+        }),
+        None => Err(Unread::Refused(Why::BadByte.at(at))),
     }
 }
 
-// What asking for a string's bytes answers. Only `Bytes` writes: every other answer leaves the output as it was.
-#[derive(Clone, Copy)]
-pub enum Unescaped {
-    // So many bytes were written at the front of the output, and the place after the string's token.
-    Bytes { count: usize, next: usize },
-    // The bytes ended before a token or inside one.
-    Incomplete,
-    // The bytes are no token.
-    Refused { refusal: Refusal },
-    // 26: the place lies beyond the slice.
-    Beyond,
+// A string's bytes, written at the front of the output: how many, and the place after the string's token.
+#[derive(Clone, Copy, Debug, PartialEq, Eq)]
+pub struct Copied {
+    pub count: usize,
+    pub next: usize,
+}
+
+// Why no string's bytes were written. The output is as it was.
+#[derive(Clone, Copy, Debug, PartialEq, Eq)]
+pub enum NoBytes {
+    // No token was read.
+    Unread(Unread),
     // 14: the token is no string.
     NotString,
     // 27: the output is shorter than the string.
     Short,
 }
+
+impl From<Unread> for NoBytes {
+    ghost use Rattle.token.specs.Strings.{none_read};
+
+    ghost from_gives = { λ x e. e ≡ none_read x };
+
+    fn from(unread: Unread) -> NoBytes {
+        NoBytes::Unread(unread)
+    }
+}
+
+// What asking for a string's bytes answers. Only `Ok` writes.
+pub type Unescaped = Result<Copied, NoBytes>;
