@@ -17,7 +17,7 @@ use Rattle.token.specs.declared.Token.{Token}
 use Rattle.token.specs.declared.Token.TheVariants as token
 use Rattle.token.specs.declared.Kind.{Kind}
 use Rattle.token.specs.declared.Kind.TheVariants.{Text, Scalar}
-use Rattle.token.specs.declared.Mark.{Mark}
+use Rattle.std.specs.Prelude.{Option, Some, None}
 use Rattle.token.specs.Meaning.{kind_of, kinds_of}
 use Rattle.token.specs.Marks.{mark_of, of_mark}
 use Rattle.token.specs.Ends.{end_of}
