@@ -78,7 +78,7 @@ module _ (s : List ℕ) (at : ℕ) where
   is : (b c : ℕ) → eqb b c ≡ true → kind_by b ≡ kind_by c
   is b c e = ap kind_by (eqb-true b c e)
 
-  abbrev Marked : ℕ → Mark → Type 0
+  abbrev Marked : ℕ → Option Token → Type 0
   Marked b m = Kindly (kind_by b) (of_mark at m)
 
   mark_kindly : (b : ℕ) → Marked b (mark_of b)
