@@ -1,61 +1,47 @@
 -- `measure` meets its contract: n bytes and what the pieces from each place on give come to what those from the start give.
-use mathlib.Core.Path.{sym, ap, ◌∙◌}
+use mathlib.Core.Path.{sym, ◌∙◌}
 use native.Mathlib.Omega.{arith}
-use borrow.Author.Rules.{rules}
-use Rattle.pieces.specs.Pieces.{closed, bad_hex, cut}
-use Rattle.pieces.specs.Answers.{piece_meaning}
-use Rattle.pieces.proofs.Digits.{escape_size}
-use Rattle.pieces.proofs.Walks.{walk_out, walk_quote, walk_plain, walk_byte, walk_ends, after, after_none, after_more, after_ends}
+use Rattle.std.proofs.lemmas.Result.{err_from_is_err_and}
+use Rattle.pieces.proofs.Sizes.{escape_size}
+use Rattle.pieces.proofs.Walks.{after_none, after_out, after_quote, after_plain, after_byte, after_broken}
 use Rattle.pieces.proofs.measure.Goals as goal
+use Rattle.pieces.proofs.measure.Goals.{in-92+in_ok-p-in-92, in_default-b}
 
-pub loop-p-init : goal.loop-p-init
-loop-p-init c = (search rules, after_none _)
+pub loop-b-init : goal.loop-b-init
+loop-b-init c = (omega arith, after_none _)
 
-pub returns-then-b-eq34 : goal.returns-then-b-eq34
-returns-then-b-eq34 c =
-    let at = c.loop-p in
-    let s = c.args.input.now in
-    after_ends at.n closed ∙ ap (after at.n) (sym (walk_quote s at.p (omega arith) c.if-b-eq34.true)) ∙ at.invariant.1
+pub returns-in-34 : goal.returns-in-34
+returns-in-34 c =
+    let z = c.in-Some.ensures.lookup.3 in
+    after_quote _ _ _ z.0 (sym (z.1 0) ∙ c.in-34.is) ∙ c.loop-b.invariant.1
 
-pub overflow_add-p : goal.overflow_add-p
-overflow_add-p c =
-    let z = escape_size _ _ _ (sym (ap piece_meaning c.in-Byte.is) ∙ c.escape.ensures) in
-    omega (arith, z.0, z.1)
+pub returns-in_err-p-in-92 : goal.returns-in_err-p-in-92
+returns-in_err-p-in-92 c =
+    let z = c.in-Some.ensures.lookup.3 in
+    let r = err_from_is_err_and c.from_residual.result c.from_residual.ensures.1 in
+    rw (r.1, r.2) (after_broken _ _ _ z.0 (sym (z.1 0) ∙ c.in-92.is) _ c.in_err-p-in-92.ensures ∙ c.loop-b.invariant.1)
 
-pub loop-p-smaller-in-Byte : goal.loop-p-smaller-in-Byte
-loop-p-smaller-in-Byte c =
-    let z = escape_size _ _ _ (sym (ap piece_meaning c.in-Byte.is) ∙ c.escape.ensures) in
-    omega (arith, z.0, z.1)
+pub overflow_add-p-in-92 : goal.overflow_add-p-in-92
+overflow_add-p-in-92 c =
+    let z = c.in-Some.ensures.lookup.3 in
+    omega (arith, z.0, (escape_size _ _ _ c.in_ok-p-in-92.ensures).1)
 
-pub loop-p-preserved-in-Byte : goal.loop-p-preserved-in-Byte
-loop-p-preserved-in-Byte c =
-    let at = c.loop-p in
-    let s = c.args.input.now in
-    let e = sym (ap piece_meaning c.in-Byte.is) ∙ c.escape.ensures in
-    (omega (arith, (escape_size _ _ _ e).0), after_more at.n _ _ ∙ ap (after at.n) (sym (walk_byte s at.p (omega arith) c.if-b-eq92.true _ _ e)) ∙ at.invariant.1)
+pub loop-b-smaller : goal.loop-b-smaller
+loop-b-smaller c =
+    let z = c.in-Some.ensures.lookup.3 in
+    elim c.match-b.branch [
+      | in-92+in_ok-p-in-92 w ↦ omega (arith, z.0, (escape_size _ _ _ w.in_ok-p-in-92.ensures).0)
+      | in_default-b w ↦ omega (arith, z.0)
+    ]
 
-pub returns-in-Cut : goal.returns-in-Cut
-returns-in-Cut c =
-    let at = c.loop-p in
-    let s = c.args.input.now in
-    let e = sym (ap piece_meaning c.in-Cut.is) ∙ c.escape.ensures in
-    after_ends at.n cut ∙ ap (after at.n) (sym (walk_ends s at.p (omega arith) c.if-b-eq92.true cut e)) ∙ at.invariant.1
-
-pub returns-in-Bad : goal.returns-in-Bad
-returns-in-Bad c =
-    let at = c.loop-p in
-    let s = c.args.input.now in
-    let e = sym (ap piece_meaning c.in-Bad.is) ∙ c.escape.ensures in
-    after_ends at.n bad_hex ∙ ap (after at.n) (sym (walk_ends s at.p (omega arith) c.if-b-eq92.true bad_hex e)) ∙ at.invariant.1
-
-pub loop-p-preserved : goal.loop-p-preserved
-loop-p-preserved c =
-    let at = c.loop-p in
-    let s = c.args.input.now in
-    (search rules, after_more at.n _ _ ∙ ap (after at.n) (sym (walk_plain s at.p (omega arith) c.if-b-eq34.false c.if-b-eq92.false)) ∙ at.invariant.1)
+pub loop-b-preserved : goal.loop-b-preserved
+loop-b-preserved c =
+    let z = c.in-Some.ensures.lookup.3 in
+    elim c.match-b.branch [
+      | in-92+in_ok-p-in-92 w ↦
+          rw w.p-is (omega (arith, (escape_size _ _ _ w.in_ok-p-in-92.ensures).0), after_byte _ _ _ z.0 (sym (z.1 0) ∙ w.in-92.is) _ _ w.in_ok-p-in-92.ensures ∙ c.loop-b.invariant.1)
+      | in_default-b w ↦ rw w.p-is (omega arith, after_plain _ _ _ z.0 (λ e. omega (arith, z.1 0)) (λ e. omega (arith, z.1 0)) ∙ c.loop-b.invariant.1)
+    ]
 
 pub returns : goal.returns
-returns c =
-    let at = c.loop-p in
-    let s = c.args.input.now in
-    after_ends at.n cut ∙ ap (after at.n) (sym (walk_out s at.p (omega arith))) ∙ at.invariant.1
+returns c = after_out _ _ _ c.in_default.ensures.lookup.3 ∙ c.loop-b.invariant.1
