@@ -11,6 +11,7 @@ use Rattle.std.specs.Prelude.{Result, Ok, Err}
 use Rattle.std.proofs.lemmas.List.{drop_more}
 use Rattle.pieces.specs.Pieces.{End, closed, bad_hex, cut, Piece, byte, ends, escape_of, piece_of, Walk, giving, onward, walk}
 use Rattle.pieces.specs.Answers.{broken_at, measured_as, measure_of}
+use Rattle.pieces.specs.declared.Escaped.{Escaped}
 use Rattle.pieces.specs.declared.Broken.{Broken}
 use Rattle.pieces.specs.declared.Broken.TheVariants.{Cut, Bad}
 use Rattle.pieces.proofs.Sizes.{escape_size}
@@ -105,11 +106,13 @@ module _ (n : ℕ) (s : List ℕ) (p : ℕ) where
     after_plain e f = after_more n _ _ ∙ ap (after n) (sym (walk_plain s p h e f))
 
     module _ (e : get_or s p 0 ≡ 92) where
-      pub after_byte : (v k : ℕ) → byte v k ≡ escape_of (take (length s - (p + 1)) (drop (p + 1) s)) → after (n + 1) (walk 0 (drop (p + k) s)) ≡ after n (walk 0 (drop p s))
-      after_byte v k f = after_more n _ _ ∙ ap (after n) (sym (walk_byte s p h e v k f))
+      pub after_byte : (x : Escaped) → byte x.byte x.size ≡ escape_of (take (length s - (p + 1)) (drop (p + 1) s)) → after (n + 1) (walk 0 (drop (p + x.size) s)) ≡ after n (walk 0 (drop p s))
+      after_byte x f = after_more n _ _ ∙ ap (after n) (sym (walk_byte s p h e _ _ f))
 
       pub after_broken : (b : Broken) → ends (broken_at b) ≡ escape_of (take (length s - (p + 1)) (drop (p + 1) s)) → Err b ≡ after n (walk 0 (drop p s))
       after_broken b f = broken b n ∙ after_ends n (broken_at b) ∙ ap (after n) (sym (walk_ends s p h e (broken_at b) f))
+
+pub ruleset measured = (after_none, after_out, after_quote, after_plain, after_byte, after_broken)
 
 -- what a measure tells of the end and of the bytes
 module _ (w : Walk) where

@@ -100,6 +100,7 @@ pub fn escape(t: &[u8]) -> Result<Escaped, Broken>
 }
 
 // How many bytes the pieces from `from` on give, up to the closing quote.
+#[tactic(auto, using(crate::proofs::Walks::measured))]
 pub fn measure(input: &[u8], from: usize) -> Result<usize, Broken>
     ensures { result ≡ measure_of (walk 0 (drop from input.now)) }
 {
