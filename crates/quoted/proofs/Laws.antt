@@ -8,6 +8,7 @@ use Prim.Native.Nat.{ℕ, suc, ◌+◌, ◌-◌, ◌≤◌, ◌<◌}
 use native.Mathlib.Omega.{arith}
 use borrow.Author.Tests.{ltb-true, eqb-true, eqb-false}
 use lib.Dec.{ltb, leb, eqb}
+use Rattle.std.specs.Prelude.{Some}
 use lib.ListN.{length, drop, take, length-drop}
 use Rattle.refusal.specs.Numbers.{beyond_slice, bad_hex_escape}
 use Rattle.refusal.specs.Paper.{Paper, gives, more, refused, Spot, spot, pick}
@@ -157,7 +158,7 @@ module _ (s : List ℕ) (at : ℕ) where
 -- with no backslash before the closing quote the bytes stand as they are
 plain_bytes : (p : ℕ) (l : List ℕ) (q : ℕ) → closing p l ≡ closes_at q → stands backslash (take (q - p) l) ≡ false → (walk 0 l).bytes ≡ take (q - p) l
 unfolding closing stands
-plain_bytes p [] q e n = absurd (let z : ◌≡◌ {A = ℕ} 0 1 = cc in omega arith)
+plain_bytes p [] q e n = cc
 plain_bytes p (b ∷ l) q e n = go (plain_bytes (p + 1) l q) (eqb b 34) (eqb b 92) refl refl
   where
     go : (closing (p + 1) l ≡ closes_at q → stands backslash (take (q - (p + 1)) l) ≡ false → (walk 0 l).bytes ≡ take (q - (p + 1)) l)
@@ -171,7 +172,7 @@ plain_bytes p (b ∷ l) q e n = go (plain_bytes (p + 1) l q) (eqb b 34) (eqb b 9
         hid : (p + 1 + 1 ≤ q) × (q < p + 1 + length l) → ⊥
         hid z =
             let x : true ≡ false = sym (stands_at backslash (b ∷ l) 0 (q - p) (omega arith) (omega arith) (eqb-true _ _ g)) ∙ n in
-            let y : ◌≡◌ {A = ℕ} 1 0 = cc in omega arith
+            cc
     go i false false f g =
         let c = rw (f, g) at e in
         let z = closing_lies (p + 1) l q c in
@@ -185,7 +186,7 @@ plain_bytes p (b ∷ l) q e n = go (plain_bytes (p + 1) l q) (eqb b 34) (eqb b 9
 
 -- so the bytes of a string whose token says where they stand
 pub string_bytes : (s : List ℕ) (at : ℕ) (t : Token) (first next start len : ℕ) → quoted_at s at ≡ gives (spot t first next)
-    → extent_of t ≡ Plain start len → quoted_bytes s at ≡ take len (drop start s)
+    → extent_of t ≡ Some (Plain start len) → quoted_bytes s at ≡ take len (drop start s)
 unfolding quoted_bytes
 string_bytes s at t first next start len e x = go (quoted_ended s at t first next e)
   where
@@ -193,9 +194,9 @@ string_bytes s at t first next start len e x = go (quoted_ended s at t first nex
     go r = both (stands backslash (take (r.quote_at - (at + 1)) (drop (at + 1) s))) refl (sym (ap extent_of r.token) ∙ x)
       where
         both : (b : Bool) → stands backslash (take (r.quote_at - (at + 1)) (drop (at + 1) s)) ≡ b
-            → extent_of (pick b (Escaped (at + 1) (r.quote_at - (at + 1))) (String (at + 1) (r.quote_at - (at + 1)))) ≡ Plain start len
+            → extent_of (pick b (Escaped (at + 1) (r.quote_at - (at + 1))) (String (at + 1) (r.quote_at - (at + 1)))) ≡ Some (Plain start len)
             → (walk 0 (drop (at + 1) s)).bytes ≡ take len (drop start s)
-        both true n f = absurd (let z : ◌≡◌ {A = ℕ} 0 1 = cc in omega arith)
+        both true n f = cc
         both false n f =
             let a : at + 1 ≡ start = cc in
             let l : r.quote_at - (at + 1) ≡ len = cc in
