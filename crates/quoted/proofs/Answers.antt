@@ -10,6 +10,7 @@ use lib.ListN.{length, get_or, drop, take, length-drop}
 use lib.Seq.{drop-drop, get_or-drop}
 use Rattle.refusal.specs.Numbers.{beyond_slice, bad_hex_escape}
 use Rattle.refusal.specs.Paper.{gives, more, refused, spot}
+use Rattle.std.specs.Prelude.{None}
 use Rattle.token.specs.Ends.{end_of}
 use Rattle.token.specs.declared.Token.TheVariants.{String, Escaped}
 use Rattle.pieces.specs.Pieces.{End, closed, bad_hex, cut, Walk, walk}
@@ -58,11 +59,11 @@ module _ (s : List ℕ) (at : ℕ) where
   unfolding quoted_at
   way_end e = rw (le-ltb (length s) at (omega arith), le-leb (length s) at (omega arith))
 
-  pub no_end : length s ≤ at → 0 ≡ end_of (quoted_at s at)
+  pub no_end : length s ≤ at → None ≡ end_of (quoted_at s at)
   unfolding quoted_at
   no_end h = go (ltb (length s) at) refl
     where
-      go : (t : Bool) → ltb (length s) at ≡ t → 0 ≡ end_of (quoted_at s at)
+      go : (t : Bool) → ltb (length s) at ≡ t → None ≡ end_of (quoted_at s at)
       go true e = rw e
       go false e = rw (e, le-leb _ _ h)
 

@@ -21,6 +21,7 @@ use Rattle.token.specs.declared.Kind.TheVariants.{Text}
 use Rattle.pieces.specs.Bytes.{backslash}
 use Rattle.pieces.specs.Pieces.{End, closed, bad_hex, cut, Walk, walk}
 use Rattle.pieces.proofs.Walks.{walk_quote_cons, walk_plain_cons}
+use Rattle.std.specs.Prelude.{Some, None}
 use Rattle.token.specs.Ends.{end_of}
 use Rattle.quoted.specs.Quoted.{Closing, closes_at, unclosed, closing, stands, token_of, judged, closed_as, quoted_at, quoted_bytes}
 use Rattle.quoted.proofs.Plain.{stands_at}
@@ -91,36 +92,36 @@ module _ (s : List ℕ) (at : ℕ) where
   pub quoted_beyond : length s < at → quoted_at s at ≡ refused beyond_slice []
   quoted_beyond h = way_beyond s at h
 
-  -- an end that is not 0 is that of a string
-  pub end_is_string : (end_of (quoted_at s at) ≡ 0 → ⊥) → kinds_of (quoted_at s at) ≡ gives (spot Text at (end_of (quoted_at s at)))
-  end_is_string n = go (quoted_at s at) says n
+  -- an end is that of a string
+  pub end_is_string : (n : ℕ) → end_of (quoted_at s at) ≡ Some n → kinds_of (quoted_at s at) ≡ gives (spot Text at n)
+  end_is_string n e = go (quoted_at s at) says e
     where
-      go : (x : Paper (Spot Token)) → Says (length s) at x → (end_of x ≡ 0 → ⊥) → kinds_of x ≡ gives (spot Text at (end_of x))
-      go (gives (spot t first next)) f m = ap₂ (λ (k : Kind) (p : ℕ). gives (spot k p next)) f.kind f.here
-      go more f m = absurd (m refl)
-      go (refused k vs) f m = absurd (m refl)
+      go : (x : Paper (Spot Token)) → Says (length s) at x → end_of x ≡ Some n → kinds_of x ≡ gives (spot Text at n)
+      go (gives (spot t first next)) f m = let i : next ≡ n = cc in ap₂ (λ (k : Kind) (p : ℕ). gives (spot k p next)) f.kind f.here ∙ ap (λ (m : ℕ). gives (spot Text at m)) i
+      go more f m = absurd cc
+      go (refused k vs) f m = absurd cc
 
-  -- and the end 0 is that of none
-  pub end_is_none : end_of (quoted_at s at) ≡ 0 → (t : Token) (first next : ℕ) → quoted_at s at ≡ gives (spot t first next) → ⊥
-  end_is_none z t first next e = omega (arith, (quoted_gives t first next e).past, sym (ap end_of e) ∙ z)
+  -- where there is none no string is given
+  pub end_is_none : end_of (quoted_at s at) ≡ None → (t : Token) (first next : ℕ) → quoted_at s at ≡ gives (spot t first next) → ⊥
+  end_is_none z t first next e = let c : Some next ≡ None = sym (ap end_of e) ∙ z in cc
 
   -- the end lies among the bytes
-  pub end_lies : end_of (quoted_at s at) ≤ length s
-  end_lies = go (quoted_at s at) says
+  pub end_lies : (n : ℕ) → end_of (quoted_at s at) ≡ Some n → n ≤ length s
+  end_lies n e = go (quoted_at s at) says e
     where
-      go : (x : Paper (Spot Token)) → Says (length s) at x → end_of x ≤ length s
-      go (gives (spot t first next)) f = f.lies
-      go more f = omega arith
-      go (refused k vs) f = omega arith
+      go : (x : Paper (Spot Token)) → Says (length s) at x → end_of x ≡ Some n → n ≤ length s
+      go (gives (spot t first next)) f m = let i : next ≡ n = cc in rw i at f.lies
+      go more f m = absurd cc
+      go (refused k vs) f m = absurd cc
 
-  -- and past the opening quote, unless it is 0
-  pub end_past : (end_of (quoted_at s at) ≡ 0 → ⊥) → at < end_of (quoted_at s at)
-  end_past n = go (quoted_at s at) says n
+  -- and past the opening quote
+  pub end_past : (n : ℕ) → end_of (quoted_at s at) ≡ Some n → at < n
+  end_past n e = go (quoted_at s at) says e
     where
-      go : (x : Paper (Spot Token)) → Says (length s) at x → (end_of x ≡ 0 → ⊥) → at < end_of x
-      go (gives (spot t first next)) f m = f.past
-      go more f m = absurd (m refl)
-      go (refused k vs) f m = absurd (m refl)
+      go : (x : Paper (Spot Token)) → Says (length s) at x → end_of x ≡ Some n → at < n
+      go (gives (spot t first next)) f m = let i : next ≡ n = cc in rw i at f.past
+      go more f m = absurd cc
+      go (refused k vs) f m = absurd cc
 
 -- ---- what a string that is given has between its quotes
 

@@ -19,7 +19,7 @@ use Rattle.pieces.specs.Pieces.{End, closed, bad_hex, cut, Piece, byte, ends, he
 use Rattle.quoted.specs.Quoted.{Closing, closes_at, unclosed, closing, hidden, closed_as, quoted_at}
 use Rattle.quoted.specs.Inside.{whole_by, whole_from}
 use Rattle.pieces.proofs.Sizes.{escape_size}
-use Rattle.std.specs.Prelude.{Some, None, unwrap_or}
+use Rattle.std.specs.Prelude.{Some, None}
 use Rattle.pieces.specs.declared.Escaped.{Escaped}
 use Rattle.pieces.specs.declared.Broken.{Broken}
 use Rattle.pieces.specs.declared.Broken.TheVariants.{Cut, Bad}
@@ -188,11 +188,11 @@ pub found_quote : (s : List ℕ) (p q : ℕ) → q ≡ first_from is_quote s p �
 found_quote s p q e h = ap (λ (x : ℕ). is_quote (get_or s x 0)) e ∙ first_found is_quote s p (omega arith)
 
 -- the end of the quoted string at a place
-pub whole_end : (s : List ℕ) (at : ℕ) → at < length s → unwrap_or (whole_from s (at + 1)) 0 ≡ end_of (quoted_at s at)
+pub whole_end : (s : List ℕ) (at : ℕ) → at < length s → whole_from s (at + 1) ≡ end_of (quoted_at s at)
 unfolding whole_from
 whole_end s at h = go (walk 0 (drop (at + 1) s)).end (closing (at + 1) (drop (at + 1) s)) refl ∙ sym (ap end_of (within s at h))
   where
-    go : (x : End) (c : Closing) → (walk 0 (drop (at + 1) s)).end ≡ x → unwrap_or (whole_by x c) 0 ≡ end_of (closed_as s at c)
+    go : (x : End) (c : Closing) → (walk 0 (drop (at + 1) s)).end ≡ x → whole_by x c ≡ end_of (closed_as s at c)
     go closed (closes_at q) e = rw e
     go closed unclosed e = refl
     go bad_hex (closes_at q) e = rw e

@@ -105,13 +105,13 @@ fn whole_end(input: &[u8], from: usize) -> Option<usize>
     None
 }
 
-// The place after the quoted string whose opening quote stands at `at`, or 0 where `quoted_token` gives no token.
+// The place after the quoted string whose opening quote stands at `at`, where `quoted_token` gives a token.
 #[tactic(auto, using(crate::proofs::Answers::no_end, crate::proofs::Whole::whole_end))]
-pub fn quoted_end(input: &[u8], at: usize) -> usize
+pub fn quoted_end(input: &[u8], at: usize) -> Option<usize>
     ensures { result ≡ end_of (quoted_at input.now at) }
 {
     if input.len() <= at {
-        return 0;
+        return None;
     }
-    whole_end(input, at + 1).unwrap_or(0)
+    whole_end(input, at + 1)
 }
