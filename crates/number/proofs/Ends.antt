@@ -2,7 +2,7 @@
 use mathlib.Core.Path.{◌≡◌, refl, sym, ap, ◌∙◌}
 use mathlib.Core.Bool.{Bool, true, false, ◌||◌}
 use mathlib.Core.List.{List, [], ◌∷◌}
-use Prim.Native.Nat.{ℕ, zero, suc, ◌+◌, ◌-◌, ◌≤◌, ◌<◌}
+use Prim.Native.Nat.{ℕ, ◌+◌, ◌-◌, ◌≤◌, ◌<◌}
 use native.Mathlib.Omega.{arith}
 use native.Mathlib.Nat.{eq-or-lt_of_le}
 use mathlib.Core.Logic.{◌⊎◌, inl, inr, ⊎_elim}
@@ -18,6 +18,7 @@ use Rattle.search.proofs.Laws.{first_found, same_at_first, from_ge, from_le}
 use Rattle.token.specs.Digits.{is_digit}
 use Rattle.number.specs.Bytes.{is_sign, is_point, is_exponent, starts, any}
 use Rattle.number.specs.Grammar.{past, after_sign, none, left, onward, spent, digits_left, point_left, mantissa_left, exponent_left, double_left, is_double}
+use Rattle.std.specs.Prelude.{Option, Some, None}
 use Rattle.number.specs.Places.{Leaves, left_at, MayLeave}
 use Rattle.number.proofs.Runs.{past_none, past_one, past_less}
 
@@ -94,12 +95,8 @@ module _ (s : List ℕ) (p : ℕ) where
 
 -- ---- what is left from a place on
 
-pub left_at_lem : (s : List ℕ) (r : ℕ) (l : List ℕ) → 0 < r → drop r s ≡ l → left_at s r ≡ left l
-left_at_lem s zero l h e = absurd (omega arith)
-left_at_lem s (suc r) l h e = ap left e
-
-pub left_zero : (s : List ℕ) (r : ℕ) → r ≡ 0 → left_at s r ≡ none
-left_zero s r e = rw e
+pub left_at_lem : (s : List ℕ) (r : ℕ) (l : List ℕ) → drop r s ≡ l → left_at s (Some r) ≡ left l
+left_at_lem s r l e = ap left e
 
 -- ---- exponents
 
@@ -162,21 +159,23 @@ module _ (s : List ℕ) (a b : ℕ) (e : Leaves s a (past is_digit (drop a s)) b
 
 -- ---- text that is a double's, whole
 
-module _ (t : List ℕ) (a : ℕ) (ae : Leaves t 0 (after_sign t) a) (q : ℕ) (qe : MayLeave t a (onward exponent_left (mantissa_left (drop a t))) q) where
+module _ (t : List ℕ) (a : ℕ) (ae : Leaves t 0 (after_sign t) a) (q : Option ℕ) (qe : MayLeave t a (onward exponent_left (mantissa_left (drop a t))) q) where
   double_left_lem : double_left t ≡ left_at t q
   unfolding double_left
   double_left_lem = ap (λ (k : List ℕ). onward exponent_left (mantissa_left k)) (sym ae.rest) ∙ sym qe.rest
 
-  pub double_none : q ≡ 0 → false ≡ is_double t
+  pub double_none : q ≡ None → false ≡ is_double t
   unfolding is_double
-  double_none e = sym (ap spent (double_left_lem ∙ left_zero t q e))
+  double_none e = sym (ap spent (double_left_lem ∙ ap (left_at t) e))
 
   spent_at : (r : ℕ) → r ≤ length t → spent (left (drop r t)) ≡ eqb r (length t)
   spent_at r h = ⊎_elim (λ k. rw (eq-eqb r (length t) k, drop_of_length-le t {i = r} (omega arith))) (λ k. rw (ne_eqb r (length t) (λ z. omega arith), drop_more t r k)) (eq-or-lt_of_le h)
 
-  pub double_whole : (q ≡ 0 → ⊥) → eqb q (length t) ≡ is_double t
+  pub double_whole : (r : ℕ) → q ≡ Some r → eqb r (length t) ≡ is_double t
   unfolding is_double
-  double_whole n = sym (ap spent (double_left_lem ∙ left_at_lem t q (drop q t) (omega arith) refl) ∙ spent_at q (omega (arith, qe.high, ae.high)))
+  double_whole r e =
+      let h : r ≤ a + (length t - a) = rw e at qe.high in
+      sym (ap spent (double_left_lem ∙ ap (left_at t) e) ∙ spent_at r (omega (arith, ae.high)))
 
 -- ---- a byte of a class somewhere
 

@@ -15,7 +15,7 @@ use Rattle.number.specs.Bytes.{is_minus, is_pointed, is_text, is_unsigned, start
 use Rattle.number.specs.Grammar.{front, past, after_sign, is_double}
 use Rattle.number.specs.Number.{is_uint64, is_int64, int64_of, uint64_text, double_text, int64_text, number_text, number_of, number_at}
 use Rattle.number.specs.Places.{up_to}
-use Rattle.number.specs.declared.Magnitude.TheVariants.{Value, Bad}
+use Rattle.std.specs.Prelude.{Some, None}
 use Rattle.number.proofs.Runs.{front_past}
 use Rattle.number.proofs.Values.{up_to_true, up_to_value, up_to_bad}
 
@@ -34,27 +34,27 @@ module _ (at next : ℕ) (l : List ℕ) where
 
   -- the magnitude of what stands behind the sign
   module _ (x : List ℕ) (xe : x ≡ after_sign l) where
-    pub uint_value : starts is_minus l ≡ false → (v : ℕ) → up_to (2 ^ 64 - 1) x ≡ Value v → gives (spot (Uint64 v) at next) ≡ uint64_text at next l
+    pub uint_value : starts is_minus l ≡ false → (v : ℕ) → up_to (2 ^ 64 - 1) x ≡ Some v → gives (spot (Uint64 v) at next) ≡ uint64_text at next l
     unfolding uint64_text is_uint64
     uint_value m v e = rw (m, ← xe, up_to_true _ x v e, up_to_value _ x v e)
 
-    pub uint_bad : starts is_minus l ≡ false → up_to (2 ^ 64 - 1) x ≡ Bad → refused bad_uint64 (at ∷ []) ≡ uint64_text at next l
+    pub uint_bad : starts is_minus l ≡ false → up_to (2 ^ 64 - 1) x ≡ None → refused bad_uint64 (at ∷ []) ≡ uint64_text at next l
     unfolding uint64_text is_uint64
     uint_bad m e = rw (m, ← xe, up_to_bad _ x e)
 
-    pub minus_value : starts is_minus l ≡ true → (v : ℕ) → up_to (2 ^ 63) x ≡ Value v → (z : ℤ) → z ≡ neg_ℤ (pos v) → gives (spot (Int64 z) at next) ≡ int64_text at next l
+    pub minus_value : starts is_minus l ≡ true → (v : ℕ) → up_to (2 ^ 63) x ≡ Some v → (z : ℤ) → z ≡ neg_ℤ (pos v) → gives (spot (Int64 z) at next) ≡ int64_text at next l
     unfolding int64_text is_int64 int64_of
     minus_value m v e z ze = rw (m, ← xe, up_to_true _ x v e, up_to_value _ x v e, ze)
 
-    pub minus_bad : starts is_minus l ≡ true → up_to (2 ^ 63) x ≡ Bad → refused bad_int64 (at ∷ []) ≡ int64_text at next l
+    pub minus_bad : starts is_minus l ≡ true → up_to (2 ^ 63) x ≡ None → refused bad_int64 (at ∷ []) ≡ int64_text at next l
     unfolding int64_text is_int64
     minus_bad m e = rw (m, ← xe, up_to_bad _ x e)
 
-    pub plus_value : starts is_minus l ≡ false → (v : ℕ) → up_to (2 ^ 63 - 1) x ≡ Value v → (z : ℤ) → z ≡ pos v → gives (spot (Int64 z) at next) ≡ int64_text at next l
+    pub plus_value : starts is_minus l ≡ false → (v : ℕ) → up_to (2 ^ 63 - 1) x ≡ Some v → (z : ℤ) → z ≡ pos v → gives (spot (Int64 z) at next) ≡ int64_text at next l
     unfolding int64_text is_int64 int64_of
     plus_value m v e z ze = rw (m, ← xe, up_to_true _ x v e, up_to_value _ x v e, ze)
 
-    pub plus_bad : starts is_minus l ≡ false → up_to (2 ^ 63 - 1) x ≡ Bad → refused bad_int64 (at ∷ []) ≡ int64_text at next l
+    pub plus_bad : starts is_minus l ≡ false → up_to (2 ^ 63 - 1) x ≡ None → refused bad_int64 (at ∷ []) ≡ int64_text at next l
     unfolding int64_text is_int64
     plus_bad m e = rw (m, ← xe, up_to_bad _ x e)
 

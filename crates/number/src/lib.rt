@@ -15,43 +15,33 @@ use grammar::{
     digits_end, double_end, double_ok, has_minus, has_point, is_digit, is_pointed, is_text,
     sign_end, text_end,
 };
-use refusal::Refusal;
-use token::{Read, Token};
+use refusal::{Unread, Why};
+use token::{Placed, Read, Token};
 
-// The number that digits write.
-#[derive(Clone, Copy)]
-enum Magnitude {
-    Value(u64),
-    // No digit, a byte that is none, or a number above the limit.
-    Bad,
-}
-
-// The digits of `t` from `at` on, which write no more than `limit`.
-fn read_decimal(t: &[u8], at: usize, limit: u64) -> Magnitude
+// The number that the digits of `t` from `at` on write: there is a digit, all are digits, and it is no more than `limit`.
+fn read_decimal(t: &[u8], at: usize, limit: u64) -> Option<u64>
     ensures { (result ≡ up_to limit (drop at t.now)) × AtMost result limit }
 {
     if t.len() <= at {
-        return Magnitude::Bad;
+        return None;
     }
-    let mut i = at;
     let mut v: u64 = 0;
-    while i < t.len() {
+    for i in at..t.len() {
         let b = t[i];
         if !is_digit(b) {
-            return Magnitude::Bad;
+            return None;
         }
         let d = (b - b'0') as u64;
         if limit / 10 < v {
-            return Magnitude::Bad;
+            return None;
         }
         let w = v * 10;
         if limit - w < d {
-            return Magnitude::Bad;
+            return None;
         }
         v = w + d;
-        i += 1;
     }
-    Magnitude::Value(v)
+    Some(v)
 }
 
 fn positive(v: u64) -> i64
@@ -77,19 +67,15 @@ fn uint_token(t: &[u8], at: usize, next: usize) -> Read
     ensures { read_meaning result ≡ uint64_text at next t.now }
 {
     if has_minus(t) {
-        return Read::Refused {
-            refusal: Refusal::BadUint64 { place: at },
-        };
+        return Err(Unread::Refused(Why::BadUint64.at(at)));
     }
     match read_decimal(t, sign_end(t, 0), 0xffff_ffff_ffff_ffff) {
-        Magnitude::Value(v) => Read::Token {
+        Some(v) => Ok(Placed {
             token: Token::Uint64(v),
             first: at,
             next,
-        },
-        Magnitude::Bad => Read::Refused {
-            refusal: Refusal::BadUint64 { place: at },
-        },
+        }),
+        None => Err(Unread::Refused(Why::BadUint64.at(at))),
     }
 }
 
@@ -98,18 +84,16 @@ fn double_token(t: &[u8], at: usize, next: usize) -> Read
     ensures { read_meaning result ≡ double_text at next t.now }
 {
     if double_ok(t) {
-        return Read::Token {
+        return Ok(Placed {
             token: Token::Decimal {
                 start: at,
                 len: t.len(),
             },
             first: at,
             next,
-        };
+        });
     }
-    Read::Refused {
-        refusal: Refusal::BadDouble { place: at },
-    }
+    Err(Unread::Refused(Why::BadDouble.at(at)))
 }
 
 // The token of any other text.
@@ -119,25 +103,21 @@ fn int_token(t: &[u8], at: usize, next: usize) -> Read
     let a = sign_end(t, 0);
     if has_minus(t) {
         return match read_decimal(t, a, 0x8000_0000_0000_0000) {
-            Magnitude::Value(v) => Read::Token {
+            Some(v) => Ok(Placed {
                 token: Token::Int64(negative(v)),
                 first: at,
                 next,
-            },
-            Magnitude::Bad => Read::Refused {
-                refusal: Refusal::BadInt64 { place: at },
-            },
+            }),
+            None => Err(Unread::Refused(Why::BadInt64.at(at))),
         };
     }
     match read_decimal(t, a, 0x7fff_ffff_ffff_ffff) {
-        Magnitude::Value(v) => Read::Token {
+        Some(v) => Ok(Placed {
             token: Token::Int64(positive(v)),
             first: at,
             next,
-        },
-        Magnitude::Bad => Read::Refused {
-            refusal: Refusal::BadInt64 { place: at },
-        },
+        }),
+        None => Err(Unread::Refused(Why::BadInt64.at(at))),
     }
 }
 
@@ -146,10 +126,10 @@ pub fn number_token(input: &[u8], at: usize) -> Read
     ensures { read_meaning result ≡ number_at input.now at }
 {
     if input.len() < at {
-        return Read::Beyond;
+        return Err(Unread::Beyond);
     }
     if input.len() == at {
-        return Read::Incomplete;
+        return Err(Unread::Incomplete);
     }
     let end = text_end(input, at);
     if end < input.len() {
@@ -164,39 +144,27 @@ pub fn number_token(input: &[u8], at: usize) -> Read
 }
 
 // The end that the full reader finds.
-fn read_end(input: &[u8], at: usize) -> usize
+fn read_end(input: &[u8], at: usize) -> Option<usize>
     ensures { result ≡ end_of (number_at input.now at) }
 {
     match number_token(input, at) {
-        Read::Token {
-            token: _,
-            first: _,
-            next,
-        } => next,
-        Read::Incomplete => 0,
-        Read::Refused { refusal: _ } => 0,
-        Read::Beyond => 0,
+        Ok(Placed { next, .. }) => Some(next),
+        Err(_) => None,
     }
 }
 
-// Whether a double ends at `q`: one was there, and neither number text nor `u` goes on behind it.
+// Whether no number text and no `u` goes on at `q`.
 fn stops(s: &[u8], q: usize) -> bool
     ensures { result ≡ true → Whole s.now q }
 {
-    if q == 0 {
-        return false;
-    }
     if q < s.len() {
-        if s[q] == b'u' {
-            return false;
-        }
-        return !is_text(s[q]);
+        return s[q] != b'u' && !is_text(s[q]);
     }
     true
 }
 
-// The place after the number token at a place; 0 where `number_token` gives none.
-pub fn number_end(input: &[u8], at: usize) -> usize
+// The place after the number token at a place, where `number_token` gives one.
+pub fn number_end(input: &[u8], at: usize) -> Option<usize>
     ensures { result ≡ end_of (number_at input.now at) }
 {
     let a = sign_end(input, at);
@@ -204,19 +172,16 @@ pub fn number_end(input: &[u8], at: usize) -> usize
     if b < input.len() {
         let k = input[b];
         if k == b'u' {
-            if a < b {
-                if b - a <= 19 {
-                    if input[at] != b'-' {
-                        return b + 1;
-                    }
-                }
+            if a < b && b - a <= 19 && input[at] != b'-' {
+                return Some(b + 1);
             }
             return read_end(input, at);
         }
         if is_pointed(k) {
-            let q = double_end(input, a, b);
-            if stops(input, q) {
-                return q;
+            if let Some(q) = double_end(input, a, b) {
+                if stops(input, q) {
+                    return Some(q);
+                }
             }
             return read_end(input, at);
         }
@@ -224,10 +189,8 @@ pub fn number_end(input: &[u8], at: usize) -> usize
             return read_end(input, at);
         }
     }
-    if a < b {
-        if b - a <= 18 {
-            return b;
-        }
+    if a < b && b - a <= 18 {
+        return Some(b);
     }
     read_end(input, at)
 }

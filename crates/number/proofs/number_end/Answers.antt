@@ -26,7 +26,7 @@ returns-then-stops c =
     let at = c.args.at in
     let a = c.sign_end-a.result in
     let b = c.digits_end-b.result in
-    fast_double s at a b c.sign_end-a.ensures c.digits_end-b.ensures (omega arith) (sym c.is_pointed.ensures ∙ c.if-is_pointed.true) _ c.double_end-q.ensures (c.stops.ensures c.if-stops.true)
+    fast_double s at a b c.sign_end-a.ensures c.digits_end-b.ensures (omega arith) (sym c.is_pointed.ensures ∙ c.if-is_pointed.true) _ c.in-Some.ensures (c.stops.ensures c.if-stops.true)
 
 pub returns-then-b-a-le18 : goal.returns-then-b-a-le18
 returns-then-b-a-le18 c =

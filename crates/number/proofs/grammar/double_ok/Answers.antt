@@ -2,8 +2,8 @@
 use Rattle.number.proofs.Ends.{double_none, double_whole}
 use Rattle.number.proofs.grammar.double_ok.Goals as goal
 
-pub returns-then-q-eq0 : goal.returns-then-q-eq0
-returns-then-q-eq0 c = double_none c.args.t.now c.sign_end-a.result c.sign_end-a.ensures c.double_end-q.result c.double_end-q.ensures c.if-q-eq0.true
+pub returns-in-Some : goal.returns-in-Some
+returns-in-Some c = double_whole c.args.t.now c.sign_end-a.result c.sign_end-a.ensures c.double_end.result c.double_end.ensures _ c.in-Some.is
 
-pub returns : goal.returns
-returns c = double_whole c.args.t.now c.sign_end-a.result c.sign_end-a.ensures c.double_end-q.result c.double_end-q.ensures c.if-q-eq0.false
+pub returns-in-None : goal.returns-in-None
+returns-in-None c = double_none c.args.t.now c.sign_end-a.result c.sign_end-a.ensures c.double_end.result c.double_end.ensures c.in-None.is

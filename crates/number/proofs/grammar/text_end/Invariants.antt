@@ -8,6 +8,3 @@ use Rattle.number.proofs.grammar.text_end.Given as goal
 
 abbrev pub invariant-loop-p : goal.invariant-loop-p
 invariant-loop-p l = ((l.at ≤ l.p) × (l.p ≤ l.at + (length l.s - l.at))) × (past is_text (drop l.p l.s) ≡ past is_text (drop l.at l.s))
-
-abbrev pub decreases-loop-p : goal.decreases-loop-p
-decreases-loop-p l = length l.s - l.p
