@@ -13,7 +13,7 @@ pub fn is_blank(b: u8) -> bool
     b.is_ascii_whitespace()
 }
 
-// The place behind the newline that ends a `//` comment with the byte at `at` in it, or the end.
+// The place behind the newline that ends a `//` comment opened before `at`, or the end.
 fn past_line(input: &[u8], at: usize) -> usize
     ensures goes { skip_from input.now result ≡ line_from input.now at }
     ensures low { at ≤ result }
@@ -22,7 +22,7 @@ fn past_line(input: &[u8], at: usize) -> usize
     if end < input.len() { end + 1 } else { end }
 }
 
-// The place behind the `*/` that ends a `/*` comment with the byte at `at` in it, or the end.
+// The place behind the `*/` that ends a `/*` comment opened before `at`, or the end.
 fn past_block(input: &[u8], at: usize) -> usize
     requires { at ≤ length input.now }
     ensures goes { skip_from input.now result ≡ block_from input.now at }

@@ -57,7 +57,7 @@ all_worded = also (boolean true) (also (boolean false) (also (double _ _) (also 
 module _ (s : List ℕ) (at : ℕ) (h : at < length s) where
   lies_in : (ws : List Word) → AllWorded ws → (t : Token) (a n : ℕ) → word_of at ws (drop (at + 1) s) ≡ gives (spot t a n) → Lies s at t a n
   unfolding word_of
-  lies_in [] d t a n e = absurd (let z : ◌≡◌ {A = ℕ} 0 1 = cc in omega arith)
+  lies_in [] d t a n e = cc
   lies_in (w ∷ ws) (also k d) t a n e = go (stands w.bytes (drop (at + 1) s)) refl (lies_in ws d t a n) e
     where
       go : (q : Bool) → stands w.bytes (drop (at + 1) s) ≡ q → (word_of at ws (drop (at + 1) s) ≡ gives (spot t a n) → Lies s at t a n)
@@ -66,7 +66,7 @@ module _ (s : List ℕ) (at : ℕ) (h : at < length s) where
           let first : at ≡ a = cc in
           let next : at + 1 + length w.bytes ≡ n = cc in
           let token : w.token ≡ t = cc in
-          record { here = sym first; grows = omega arith; within = omega (arith, stands_within s at w.bytes (at + 1) f (omega arith)); worded = rw token at k }
+          record { here = sym first; grows = omega arith; within = omega (arith, stands_within s (at + 1) w.bytes f (omega arith)); worded = rw token at k }
       go false f r g = r g
 
   refused_in : (ws : List Word) (k : ℕ) (vs : List ℕ) → word_of at ws (drop (at + 1) s) ≡ refused k vs → NoWord s at k vs
@@ -76,17 +76,17 @@ module _ (s : List ℕ) (at : ℕ) (h : at < length s) where
     where
       go : (q : Bool) → (word_of at ws (drop (at + 1) s) ≡ refused k vs → NoWord s at k vs)
           → pick q (gives (spot w.token at (at + 1 + length w.bytes))) (word_of at ws (drop (at + 1) s)) ≡ refused k vs → NoWord s at k vs
-      go true r g = absurd (let z : ◌≡◌ {A = ℕ} 0 1 = cc in omega arith)
+      go true r g = cc
       go false r g = r g
 
   settled_in : (ws : List Word) → word_of at ws (drop (at + 1) s) ≡ more → ⊥
   unfolding word_of
-  settled_in [] e = let z : ◌≡◌ {A = ℕ} 0 1 = cc in omega arith
+  settled_in [] e = cc
   settled_in (w ∷ ws) e = go (stands w.bytes (drop (at + 1) s)) (settled_in ws) e
     where
       go : (q : Bool) → (word_of at ws (drop (at + 1) s) ≡ more → ⊥)
           → pick q (gives (spot w.token at (at + 1 + length w.bytes))) (word_of at ws (drop (at + 1) s)) ≡ more → ⊥
-      go true r g = let z : ◌≡◌ {A = ℕ} 0 1 = cc in omega arith
+      go true r g = cc
       go false r g = r g
 
 -- ---- the answer at a place
@@ -103,15 +103,15 @@ module _ (s : List ℕ) (at : ℕ) where
   -- a word's token starts at its `%` and ends within the slice
   pub word_lies : (t : Token) (a n : ℕ) → word_at s at ≡ gives (spot t a n) → Lies s at t a n
   word_lies t a n e =
-      ⊎_elim (λ h. absurd (let f = beyond s at h in let z : ◌≡◌ {A = ℕ} 0 1 = cc in omega arith))
-      (⊎_elim (λ h. absurd (let f = ended s at h in let z : ◌≡◌ {A = ℕ} 0 1 = cc in omega arith)) (λ h. lies_in s at h words all_worded t a n (inside s at h ∙ e)))
+      ⊎_elim (λ h. cc (beyond s at h))
+      (⊎_elim (λ h. cc (ended s at h)) (λ h. lies_in s at h words all_worded t a n (inside s at h ∙ e)))
       (three (length s) at)
 
   -- a refusal is 9 at the `%`; 26 beyond the slice
   pub word_refused : (k : ℕ) (vs : List ℕ) → word_at s at ≡ refused k vs → NoWord s at k vs
   word_refused k vs e =
       ⊎_elim (λ h. let f = beyond s at h in let g : beyond_slice ≡ k = cc in let i : [] ≡ vs = cc in rw (← g, ← i) (outside h))
-      (⊎_elim (λ h. absurd (let f = ended s at h in let z : ◌≡◌ {A = ℕ} 0 1 = cc in omega arith)) (λ h. refused_in s at h words k vs (inside s at h ∙ e)))
+      (⊎_elim (λ h. cc (ended s at h)) (λ h. refused_in s at h words k vs (inside s at h ∙ e)))
       (three (length s) at)
 
   -- a `%` settles a word: more bytes are never needed

@@ -2,11 +2,10 @@
 use mathlib.Core.Path.{◌≡◌, sym}
 use mathlib.Core.Bool.{Bool, true, false, cond, not}
 use mathlib.Core.List.{List, [], ◌∷◌}
-use Prim.Native.Nat.{ℕ, suc, ◌+◌, ◌≤◌, ◌<◌}
+use Prim.Native.Nat.{ℕ, suc, ◌+◌, ◌<◌}
 use native.Mathlib.Nat.{add-zero}
 use native.Mathlib.Omega.{arith}
-use borrow.Author.Tests.{le-leb, lt-leb}
-use lib.Dec.{leb}
+use borrow.Author.Tests.{lt-leb}
 use lib.ListN.{drop}
 use Rattle.refusal.specs.Paper.{pick}
 use Rattle.search.specs.First.{first, first_from, is_joint, is_edge}
@@ -17,18 +16,6 @@ module _ (b : ℕ) where
   pub letter_low : b < 65 → false ≡ is_letter b
   unfolding is_letter
   letter_low h = rw (lt-leb 65 b h, lt-leb 97 b (omega arith))
-
-  pub letter_upper : 65 ≤ b → b ≤ 90 → true ≡ is_letter b
-  unfolding is_letter
-  letter_upper h k = rw (le-leb 65 b h, le-leb b 90 k)
-
-  pub letter_between : 90 < b → b < 97 → false ≡ is_letter b
-  unfolding is_letter
-  letter_between h k = rw (le-leb 65 b (omega arith), lt-leb b 90 h, lt-leb 97 b k)
-
-  pub letter_lower : 90 < b → 97 ≤ b → leb b 122 ≡ is_letter b
-  unfolding is_letter
-  letter_lower h k = rw (le-leb 65 b (omega arith), lt-leb b 90 h, le-leb 97 b k)
 
 -- a run ends at the first byte that is none of its bytes
 first_run : (p : ℕ) (l : List ℕ) → first is_edge p l ≡ p + plain_run l

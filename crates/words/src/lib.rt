@@ -1,99 +1,80 @@
 // Words after `%`, and unquoted strings, in a text stream. specs/Word.antt says which word is which token, and specs/Plain.antt how far an
-// unquoted string runs. A word is told by its first byte.
+// unquoted string runs.
 #![tactic(auto)]
 
-ghost use Rattle.std.specs.Prelude.{◌≡◌, [], ◌∷◌, ◌+◌, ◌≤◌, length, drop};
+ghost use Rattle.std.specs.Prelude.{◌≡◌, ◌≤◌, length};
 ghost use Rattle.token.specs.Meaning.{read_meaning};
 ghost use Rattle.token.specs.Ends.{end_of};
-ghost use Rattle.words.specs.Word.{stands, word_at};
+ghost use Rattle.words.specs.Word.{word_at};
 ghost use Rattle.words.specs.Plain.{is_letter, plain_end};
-ghost use Rattle.words.specs.Cases.{WordAt};
+ghost use Rattle.words.specs.Cases.{width, token_of, WordAt};
 
-use refusal::Refusal;
-use token::{Read, Token};
+use refusal::{Unread, Why};
+use token::{Placed, Read, Token};
 
-// The word that stands at a place.
+// The words that may stand after `%`.
 #[derive(Clone, Copy)]
-enum Found {
+enum Word {
     True,
     False,
     Nan,
     Inf,
     NegInf,
-    Unknown,
 }
 
-// Whether two bytes stand at a place.
-fn two_at(s: &[u8], p: usize, a: u8, b: u8) -> bool
-    requires { p ≤ length s.now }
-    ensures { result ≡ stands (a ∷ b ∷ []) (drop p s.now) }
-{
-    if s.len() - p < 2 {
-        return false;
+impl Word {
+    // How many bytes a word has.
+    fn width(self) -> usize
+        ensures { result ≡ width self }
+    {
+        match self {
+            Word::True | Word::NegInf => 4,
+            Word::False => 5,
+            Word::Nan | Word::Inf => 3,
+        }
     }
-    if s[p] != a {
-        return false;
-    }
-    s[p + 1] == b
-}
 
-// Whether three bytes stand at a place.
-fn three_at(s: &[u8], p: usize, a: u8, b: u8, c: u8) -> bool
-    requires { p ≤ length s.now }
-    ensures { result ≡ stands (a ∷ b ∷ c ∷ []) (drop p s.now) }
-{
-    if s.len() <= p {
-        return false;
+    // The token that a word is.
+    fn token(self) -> Token
+        ensures { result ≡ token_of self }
+    {
+        match self {
+            Word::True => Token::Boolean(true),
+            Word::False => Token::Boolean(false),
+            Word::Nan => Token::Double {
+                value: f64::NAN,
+                bits: 0x7ff8_0000_0000_0000,
+            },
+            Word::Inf => Token::Double {
+                value: f64::INFINITY,
+                bits: 0x7ff0_0000_0000_0000,
+            },
+            Word::NegInf => Token::Double {
+                value: f64::NEG_INFINITY,
+                bits: 0xfff0_0000_0000_0000,
+            },
+        }
     }
-    if s[p] != a {
-        return false;
-    }
-    two_at(s, p + 1, b, c)
 }
 
 // The word that stands at a place within the slice.
-fn word_at(s: &[u8], p: usize) -> Found
+fn word_at(s: &[u8], p: usize) -> Option<Word>
     requires { p ≤ length s.now }
     ensures { WordAt s.now p result }
 {
-    if s.len() <= p {
-        return Found::Unknown;
-    }
-    match s[p] {
-        b't' => {
-            if three_at(s, p + 1, b'r', b'u', b'e') {
-                return Found::True;
-            }
-            Found::Unknown
-        }
-        b'f' => {
-            if !two_at(s, p + 1, b'a', b'l') {
-                return Found::Unknown;
-            }
-            if two_at(s, p + 3, b's', b'e') {
-                return Found::False;
-            }
-            Found::Unknown
-        }
-        b'n' => {
-            if two_at(s, p + 1, b'a', b'n') {
-                return Found::Nan;
-            }
-            Found::Unknown
-        }
-        b'i' => {
-            if two_at(s, p + 1, b'n', b'f') {
-                return Found::Inf;
-            }
-            Found::Unknown
-        }
-        b'-' => {
-            if three_at(s, p + 1, b'i', b'n', b'f') {
-                return Found::NegInf;
-            }
-            Found::Unknown
-        }
-        _ => Found::Unknown,
+    let rest = &s[p..];
+    if rest.starts_with(b"true") {
+        Some(Word::True)
+    } else if rest.starts_with(b"false") {
+        Some(Word::False)
+    } else if rest.starts_with(b"nan") {
+        Some(Word::Nan)
+    } else if rest.starts_with(b"inf") {
+        Some(Word::Inf)
+    } else if rest.starts_with(b"-inf") {
+        Some(Word::NegInf)
+    } else {
+        None
     }
 }
 
@@ -103,49 +84,18 @@ pub fn word_token(input: &[u8], at: usize) -> Read
     ensures { read_meaning result ≡ word_at input.now at }
 {
     if input.len() < at {
-        return Read::Beyond;
+        return Err(Unread::Beyond);
     }
     if input.len() == at {
-        return Read::Incomplete;
+        return Err(Unread::Incomplete);
     }
     match word_at(input, at + 1) {
-        Found::True => Read::Token {
-            token: Token::Boolean(true),
+        Some(word) => Ok(Placed {
+            token: word.token(),
             first: at,
-            next: at + 5,
-        },
-        Found::False => Read::Token {
-            token: Token::Boolean(false),
-            first: at,
-            next: at + 6,
-        },
-        Found::Nan => Read::Token {
-            token: Token::Double {
-                value: 0.0 / 0.0,
-                bits: 0x7ff8_0000_0000_0000,
-            },
-            first: at,
-            next: at + 4,
-        },
-        Found::Inf => Read::Token {
-            token: Token::Double {
-                value: f64::from_bits(0x7ff0_0000_0000_0000),
-                bits: 0x7ff0_0000_0000_0000,
-            },
-            first: at,
-            next: at + 4,
-        },
-        Found::NegInf => Read::Token {
-            token: Token::Double {
-                value: f64::from_bits(0xfff0_0000_0000_0000),
-                bits: 0xfff0_0000_0000_0000,
-            },
-            first: at,
-            next: at + 5,
-        },
-        Found::Unknown => Read::Refused {
-            refusal: Refusal::UnknownWord { place: at },
-        },
+            next: at + 1 + word.width(),
+        }),
+        None => Err(Unread::Refused(Why::UnknownWord.at(at))),
     }
 }
 
@@ -157,29 +107,17 @@ pub fn word_end(input: &[u8], at: usize) -> usize
         return 0;
     }
     match word_at(input, at + 1) {
-        Found::True => at + 5,
-        Found::False => at + 6,
-        Found::Nan => at + 4,
-        Found::Inf => at + 4,
-        Found::NegInf => at + 5,
-        Found::Unknown => 0,
+        Some(word) => at + 1 + word.width(),
+        None => 0,
     }
 }
 
 // Whether a byte is a letter: `a` to `z` or `A` to `Z`.
+#[tactic(auto, unfolding(crate::specs::Plain::is_letter))]
 pub fn is_letter(b: u8) -> bool
     ensures { result ≡ is_letter b }
 {
-    if b < b'A' {
-        return false;
-    }
-    if b <= b'Z' {
-        return true;
-    }
-    if b < b'a' {
-        return false;
-    }
-    b <= b'z'
+    b.is_ascii_alphabetic()
 }
 
 // The first place from `at` on whose byte no unquoted string runs over; `at` itself where it lies beyond the slice.
