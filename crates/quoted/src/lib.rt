@@ -3,23 +3,15 @@
 // escapes; specs/Inside.antt says what the private functions answer.
 #![tactic(auto)]
 
-ghost use Rattle.std.specs.Prelude.{◌≡◌, ◌+◌, drop};
+ghost use Rattle.std.specs.Prelude.{◌≡◌, drop};
 ghost use Rattle.token.specs.Meaning.{read_meaning};
 ghost use Rattle.token.specs.Ends.{end_of};
 ghost use Rattle.quoted.specs.Quoted.{closing, quoted_at};
-ghost use Rattle.quoted.specs.Inside.{plain, closing_by, Opens, whole_from};
+ghost use Rattle.quoted.specs.Inside.{closing_by, Opens, whole_from};
 
 use pieces::Broken;
 use refusal::{Unread, Why};
 use token::{Placed, Read, Token};
-
-// The first place from `from` on where a quote or a backslash stands, or the end.
-#[tactic(auto, using(crate::proofs::Plain::plain_first))]
-fn plain_end(input: &[u8], from: usize) -> usize
-    ensures { result ≡ from + plain (drop from input.now) }
-{
-    search::find_quote(input, from)
-}
 
 // The place of the closing quote, from `from` on. A backslash hides one byte.
 #[tactic(auto, using(crate::proofs::Places::closes))]
@@ -61,7 +53,7 @@ fn escaped_token(input: &[u8], at: usize, p: usize) -> Read
 }
 
 // The quoted string whose opening quote stands at `at`. Its escapes are judged once the closing quote is found.
-#[tactic(auto, using(crate::proofs::Answers::ways))]
+#[tactic(auto, using(crate::proofs::Answers::ways, crate::proofs::Plain::plain_first))]
 pub fn quoted_token(input: &[u8], at: usize) -> Read
     ensures { read_meaning result ≡ quoted_at input.now at }
 {
@@ -72,7 +64,7 @@ pub fn quoted_token(input: &[u8], at: usize) -> Read
         return Err(Unread::Incomplete);
     }
     let start = at + 1;
-    let p = plain_end(input, start);
+    let p = search::find_quote(input, start);
     match input.get(p) {
         None => Err(Unread::Incomplete),
         Some(b'"') => Ok(Placed {
