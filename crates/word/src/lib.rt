@@ -22,7 +22,7 @@ pub fn word_at(s: &[u8], p: usize) -> u64
     let Some(rest) = s.get(p..) else {
         return 0;
     };
-    match rest.first_chunk() {
+    match rest.first_chunk::<8>() {
         Some(bytes) => u64::from_le_bytes(*bytes),
         None => word_cut(rest),
     }
