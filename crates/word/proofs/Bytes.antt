@@ -1,40 +1,23 @@
 -- The bytes of a word.
-use mathlib.Core.Path.{◌≡◌, refl, ap, ap₂}
-use mathlib.Core.List.{List}
-use Prim.Native.Nat.{ℕ, zero, suc, ◌+◌, ◌*◌, ◌-◌, ◌^◌, ◌≤◌, ◌<◌}
-use native.Mathlib.Nat.{add-zero, pow-le-pow_right}
+use mathlib.Core.Path.{◌≡◌, refl, sym, ap₂, ◌∙◌}
+use mathlib.Core.Bool.{Bool, true, false}
+use mathlib.Core.List.{List, ◌++◌}
+use Prim.Native.Nat.{ℕ, zero, suc, ◌+◌, ◌*◌, ◌-◌, ◌≤◌, ◌<◌}
+use native.Mathlib.Nat.{add-zero, zero-add}
 use native.Mathlib.Omega.{arith}
-use lib.Dec.{lit<}
-use lib.ListN.{length, get_or, get_or-eq_default}
+use borrow.Author.Tests.{ltb-true, ltb-false}
+use lib.Dec.{ltb}
+use lib.ListN.{length, get_or, get_or-eq_default, get_or-append, take, drop, replicate, length-replicate}
+use lib.Seq.{get_or-drop, get_or-take}
+use mir.Syntax.{w64}
+use Rattle.std.specs.Int.{from_le_bytes}
+use Rattle.std.proofs.lemmas.List.{get_or-append_right, get_or-replicate}
 use Rattle.word.specs.Word.{word_at}
 
-module _ (s : List ℕ) (p : ℕ) where
-  two : p + 1 + 1 ≡ p + 2
-  two = omega arith
-
-  three : p + 2 + 1 ≡ p + 3
-  three = omega arith
-
-  four : p + 3 + 1 ≡ p + 4
-  four = omega arith
-
-  five : p + 4 + 1 ≡ p + 5
-  five = omega arith
-
-  six : p + 5 + 1 ≡ p + 6
-  six = omega arith
-
-  seven : p + 6 + 1 ≡ p + 7
-  seven = omega arith
-
-  -- four bytes, and eight as twice four
-  pub word_four : word_at 4 s p ≡ get_or s p 0 + 256 * get_or s (p + 1) 0 + 65536 * get_or s (p + 2) 0 + 16777216 * get_or s (p + 3) 0
-  unfolding word_at
-  word_four = rw (two, three) (omega arith)
-
-  pub word_eight : word_at 8 s p ≡ word_at 4 s p + 4294967296 * word_at 4 s (p + 4)
-  unfolding word_at
-  word_eight = rw (two, three, four, five, six, seven) (omega arith)
+-- the number of eight bytes
+pub word_le : (bs : List ℕ) → from_le_bytes w64 bs ≡ word_at 8 bs 0
+unfolding word_at
+word_le bs = omega arith
 
 -- behind the end stand only bytes 0
 pub word_out : (s : List ℕ) (n p : ℕ) → length s ≤ p → word_at n s p ≡ 0
@@ -43,34 +26,40 @@ word_out s zero p h = refl
 word_out s (suc n) p h = rw (get_or-eq_default s 0 h, word_out s n (p + 1) (omega arith))
 
 -- the same bytes are the same word
-pub word_same : (s u : List ℕ) (n p : ℕ) → ((i : ℕ) → i < n → get_or s (p + i) 0 ≡ get_or u (p + i) 0) → word_at n s p ≡ word_at n u p
+word_moved : (s u : List ℕ) (n p q : ℕ) → ((i : ℕ) → i < n → get_or s (p + i) 0 ≡ get_or u (q + i) 0) → word_at n s p ≡ word_at n u q
 unfolding word_at
-word_same s u zero p f = refl
-word_same s u (suc n) p f = ap₂ (λ (x y : ℕ). x * 256 + y) (word_same s u n (p + 1) next) here
+word_moved s u zero p q f = refl
+word_moved s u (suc n) p q f = ap₂ (λ (x y : ℕ). x * 256 + y) (word_moved s u n (p + 1) (q + 1) next) here
   where
-    here : get_or s p 0 ≡ get_or u p 0
-    here = rw add-zero at (f 0 (omega arith))
+    here : get_or s p 0 ≡ get_or u q 0
+    here = rw (add-zero, add-zero) at (f 0 (omega arith))
 
-    next : (i : ℕ) → i < n → get_or s (p + 1 + i) 0 ≡ get_or u (p + 1 + i) 0
-    next i h = let e : p + 1 + i ≡ p + suc i = omega arith in rw e (f (suc i) (omega arith))
+    next : (i : ℕ) → i < n → get_or s (p + 1 + i) 0 ≡ get_or u (q + 1 + i) 0
+    next i h =
+        let e : p + 1 + i ≡ p + suc i = omega arith in
+        let g : q + 1 + i ≡ q + suc i = omega arith in
+        rw (e, g) (f (suc i) (omega arith))
 
--- n bytes are below 256 ^ n
-word_lt : (s : List ℕ) → ((i : ℕ) → get_or s i 0 < 256) → (n p : ℕ) → word_at n s p < 256 ^ n
-unfolding word_at
-word_lt s known zero p = lit< tt
-word_lt s known (suc n) p = omega (arith, word_lt s known n (p + 1), known p)
+pub word_same : (s u : List ℕ) (n p : ℕ) → ((i : ℕ) → i < n → get_or s (p + i) 0 ≡ get_or u (p + i) 0) → word_at n s p ≡ word_at n u p
+word_same s u n p f = word_moved s u n p p f
 
--- ---- a byte more in front of the bytes from q on, of the eight from p on
-module _ (s : List ℕ) (p q w : ℕ) (h : p < q) (k : q < p + 8) (e : w ≡ word_at (8 - (q - p)) s q) where
-  pub more_fits : ((i : ℕ) → get_or s i 0 < 256) → w < 72057594037927936
-  more_fits known = omega (arith, word_lt s known (8 - (q - p)) q, pow-le-pow_right {n = 256} (lit< tt) {i = 8 - (q - p)} {j = 7} (omega arith))
+-- of the bytes from p on, at their front
+pub word_behind : (s : List ℕ) (n p : ℕ) → word_at n (drop p s) 0 ≡ word_at n s p
+word_behind s n p = word_moved (drop p s) s n 0 p (λ i h. rw zero-add (get_or-drop p s i 0))
 
-  pub word_more : w * 256 + get_or s (q - 1) 0 ≡ word_at (8 - (q - 1 - p)) s (q - 1)
-  unfolding word_at
-  word_more = rw (less, same) (ap (λ (x : ℕ). x * 256 + get_or s (q - 1) 0) e)
-    where
-      less : 8 - (q - 1 - p) ≡ suc (8 - (q - p))
-      less = omega arith
+pub word_front : (s : List ℕ) (n p : ℕ) → word_at n (take n (drop p s)) 0 ≡ word_at n s p
+word_front s n p = word_moved (take n (drop p s)) (drop p s) n 0 0 (λ i h. rw zero-add (get_or-take n (drop p s) i 0 h)) ∙ word_behind s n p
 
-      same : q - 1 + 1 ≡ q
-      same = omega arith
+-- bytes 0 behind them change nothing
+pub word_padded : (s : List ℕ) (n k : ℕ) → word_at n (s ++ replicate k 0) 0 ≡ word_at n s 0
+word_padded s n k = word_moved (s ++ replicate k 0) s n 0 0 (λ i h. at (0 + i) (ltb (0 + i) (length s)) refl)
+  where
+    zero_at : (j i : ℕ) (t : Bool) → ltb i j ≡ t → ◌≡◌ {A = ℕ} (get_or (replicate j 0) i 0) 0
+    zero_at j i true e = get_or-replicate j i 0 0 (ltb-true _ _ e)
+    zero_at j i false e = get_or-eq_default (replicate j 0) 0 (omega (arith, length-replicate {A = ℕ} j 0, ltb-false _ _ e))
+
+    at : (i : ℕ) (t : Bool) → ltb i (length s) ≡ t → get_or (s ++ replicate k 0) i 0 ≡ get_or s i 0
+    at i true e = get_or-append s (replicate k 0) 0 i (ltb-true _ _ e)
+    at i false e =
+        let h : length s ≤ i = ltb-false _ _ e in
+        get_or-append_right s (replicate k 0) (length s) i 0 refl h ∙ zero_at k (i - length s) (ltb (i - length s) k) refl ∙ sym (get_or-eq_default s 0 h)
