@@ -61,7 +61,7 @@ impl Lines<'_> {
         Ok(())
     }
 
-    // `refused NUMBER OFFSET`
+    // The last line: `refused NUMBER OFFSET`
     fn refused(&mut self, number: usize, offset: u64) -> Result<(), Stop> {
         self.spare()?;
         self.text.put(b"refused ");
@@ -72,7 +72,7 @@ impl Lines<'_> {
         Err(Stop::Told)
     }
 
-    // `end TAKEN records COUNT`
+    // The last line: `end TAKEN records COUNT`
     fn end(&mut self, taken: u64, records: u64) -> Result<(), Stop> {
         self.spare()?;
         self.text.put(b"end ");
@@ -136,6 +136,7 @@ impl Stream<'_, '_> {
                     self.drain()?;
                     continue;
                 }
+                // No refusal has this number.
                 Taking::Taken { .. } => 0,
                 Taking::StrangeState => refusal::STRANGE_STATE,
                 Taking::AfterClosing => refusal::AFTER_CLOSING,
