@@ -9,7 +9,7 @@ use lib.Dec.{ltb}
 use lib.ListN.{length}
 use Rattle.refusal.specs.Numbers.{too_deep}
 use Rattle.refusal.specs.Paper.{Paper, refused, pick}
-use Rattle.refusal.specs.Meaning.{number_of, place_of, refusal_meaning, named_by}
+use Rattle.refusal.specs.Meaning.{why_of, number_of, place_of, refusal_meaning, named_by}
 use Rattle.token.specs.declared.Kind.{Kind}
 use Rattle.token.specs.declared.Kind.TheVariants.{Text, Scalar, OpenList, CloseList, OpenMap, CloseMap, OpenAttributes, CloseAttributes, Equals, Semicolon}
 use Rattle.automaton.specs.Limit.{most_open}
@@ -143,7 +143,7 @@ wrong_named d K k w e = subst Named e (step_named d K k)
 
 -- the numbers up to the last that a refusal has, each with its name
 named : (n p : ℕ) → 0 < n → n ≤ too_deep → (number_of (named_by n p) ≡ n) × (place_of (named_by n p) ≡ p)
-unfolding named_by
+unfolding why_of
 named zero p h g = absurd (omega arith)
 named (suc zero) p h g = (refl, refl)
 named (suc (suc zero)) p h g = (refl, refl)
