@@ -7,11 +7,11 @@ ghost use Rattle.pieces.specs.Bytes.{hex_digit};
 ghost use Rattle.pieces.specs.Pieces.{byte, hex_of, third_of, octal_of, escape_of, walk};
 ghost use Rattle.pieces.specs.Answers.{piece_meaning, measure_of};
 
-// An escape: the byte that it gives, and how many input bytes it takes, the backslash among them.
+// An escape: the byte that it gives, and how many input bytes it takes, the backslash among them: two to four.
 #[derive(Clone, Copy, Debug, PartialEq, Eq)]
 pub struct Escaped {
     pub byte: u8,
-    pub size: usize,
+    pub size: u8,
 }
 
 // Why an escape, or the pieces up to a closing quote, are not whole.
@@ -109,7 +109,7 @@ pub fn measure(input: &[u8], from: usize) -> Result<usize, Broken>
     while let Some(&b) = input.get(p) {
         match b {
             b'"' => return Ok(n),
-            b'\\' => p += escape(&input[p + 1..])?.size,
+            b'\\' => p += usize::from(escape(&input[p + 1..])?.size),
             _ => p += 1,
         }
         n += 1;
