@@ -54,18 +54,21 @@ pub fn count_tokens(input: &[u8], format: Format) -> Count
     let mut count = 0usize;
     let mut end = 0usize;
     while end < input.len() {
-        match token_at(input, end, format) {
+        let refusal = match token_at(input, end, format) {
             Ok(Placed { next, .. }) => {
                 count += 1;
                 end = next;
+                continue;
             }
-            Err(Unread::Refused(refusal)) => return Count {
-                count,
-                end,
-                refusal: Some(refusal),
-            },
-            Err(Unread::Incomplete | Unread::Beyond) => break,
-        }
+            Err(Unread::Refused(refusal)) => Some(refusal),
+            Err(Unread::Incomplete) => None,
+            Err(Unread::Beyond) => None,
+        };
+        return Count {
+            count,
+            end,
+            refusal,
+        };
     }
     Count {
         count,

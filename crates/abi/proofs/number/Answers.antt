@@ -6,7 +6,7 @@ use lib.IntN.{ℤ}
 use mir.Syntax.{w64}
 use mir.Val.{hbits}
 use mir.Facts.{to_z_pos}
-use Rattle.std.specs.Prelude.{Result, Ok, Err}
+use Rattle.std.specs.Prelude.{Result, Ok}
 use Rattle.refusal.specs.declared.Unwhole.{Unwhole}
 use Rattle.scan.specs.Meaning.{scan_meaning}
 use Rattle.abi.specs.Call.{signed, Fitting}
