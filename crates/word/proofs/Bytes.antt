@@ -1,17 +1,16 @@
 -- The bytes of a word.
-use mathlib.Core.Path.{◌≡◌, refl, sym, ap₂, ◌∙◌}
-use mathlib.Core.Bool.{Bool, true, false}
-use mathlib.Core.List.{List, ◌++◌}
-use Prim.Native.Nat.{ℕ, zero, suc, ◌+◌, ◌*◌, ◌-◌, ◌≤◌, ◌<◌}
-use native.Mathlib.Nat.{add-zero, zero-add}
+use mathlib.Core.Path.{◌≡◌, refl, sym, ap, ap₂, ◌∙◌}
+use mathlib.Core.List.{List}
+use mathlib.Core.Logic.{◌⊎◌, inl, inr}
+use Prim.Native.Nat.{ℕ, zero, suc, ◌+◌, ◌*◌, ◌-◌, ◌^◌, ◌≤◌, ◌<◌}
+use native.Mathlib.Nat.{add-zero, zero-add, pow-le-pow_right}
 use native.Mathlib.Omega.{arith}
-use borrow.Author.Tests.{ltb-true, ltb-false}
-use lib.Dec.{ltb}
-use lib.ListN.{length, get_or, get_or-eq_default, get_or-append, take, drop, replicate, length-replicate}
+use lib.Dec.{lit<}
+use lib.ListN.{length, get_or, get_or-eq_default, drop}
 use lib.Seq.{get_or-drop, get_or-take}
 use mir.Syntax.{w64}
 use Rattle.std.specs.Int.{from_le_bytes}
-use Rattle.std.proofs.lemmas.List.{get_or-append_right, get_or-replicate}
+use Rattle.std.specs.Prelude.{slice_range}
 use Rattle.word.specs.Word.{word_at}
 
 -- the number of eight bytes
@@ -43,23 +42,35 @@ word_moved s u (suc n) p q f = ap₂ (λ (x y : ℕ). x * 256 + y) (word_moved s
 pub word_same : (s u : List ℕ) (n p : ℕ) → ((i : ℕ) → i < n → get_or s (p + i) 0 ≡ get_or u (p + i) 0) → word_at n s p ≡ word_at n u p
 word_same s u n p f = word_moved s u n p p f
 
--- of the bytes from p on, at their front
-pub word_behind : (s : List ℕ) (n p : ℕ) → word_at n (drop p s) 0 ≡ word_at n s p
-word_behind s n p = word_moved (drop p s) s n 0 p (λ i h. rw zero-add (get_or-drop p s i 0))
+-- of eight bytes from p on
+pub word_read : (s : List ℕ) (p r : ℕ) (bytes : List ℕ) → r ≡ from_le_bytes w64 bytes → bytes ≡ slice_range s p (p + 8) → r ≡ word_at 8 s p
+word_read s p r bytes e f = e ∙ word_le bytes ∙ rw f (word_moved (slice_range s p (p + 8)) s 8 0 p (λ i h. rw zero-add (get_or-take (p + 8 - p) (drop p s) i 0 (omega arith) ∙ get_or-drop p s i 0)))
 
-pub word_front : (s : List ℕ) (n p : ℕ) → word_at n (take n (drop p s)) 0 ≡ word_at n s p
-word_front s n p = word_moved (take n (drop p s)) (drop p s) n 0 0 (λ i h. rw zero-add (get_or-take n (drop p s) i 0 h)) ∙ word_behind s n p
+-- n bytes are below 256 ^ n
+word_lt : (s : List ℕ) → ((i : ℕ) → get_or s i 0 < 256) → (n p : ℕ) → word_at n s p < 256 ^ n
+unfolding word_at
+word_lt s known zero p = lit< tt
+word_lt s known (suc n) p = omega (arith, word_lt s known n (p + 1), known p)
 
--- bytes 0 behind them change nothing
-pub word_padded : (s : List ℕ) (n k : ℕ) → word_at n (s ++ replicate k 0) 0 ≡ word_at n s 0
-word_padded s n k = word_moved (s ++ replicate k 0) s n 0 0 (λ i h. at (0 + i) (ltb (0 + i) (length s)) refl)
-  where
-    zero_at : (j i : ℕ) (t : Bool) → ltb i j ≡ t → ◌≡◌ {A = ℕ} (get_or (replicate j 0) i 0) 0
-    zero_at j i true e = get_or-replicate j i 0 0 (ltb-true _ _ e)
-    zero_at j i false e = get_or-eq_default (replicate j 0) 0 (omega (arith, length-replicate {A = ℕ} j 0, ltb-false _ _ e))
+-- ---- a byte more in front of the bytes from q on, of the eight from p on
+module _ (s : List ℕ) (p q w : ℕ) (h : p < q) (k : q < p + 8) (e : w ≡ word_at (8 - (q - p)) s q) where
+  pub more_fits : ((i : ℕ) → get_or s i 0 < 256) → w < 72057594037927936
+  more_fits known = omega (arith, word_lt s known (8 - (q - p)) q, pow-le-pow_right {n = 256} (lit< tt) {i = 8 - (q - p)} {j = 7} (omega arith))
 
-    at : (i : ℕ) (t : Bool) → ltb i (length s) ≡ t → get_or (s ++ replicate k 0) i 0 ≡ get_or s i 0
-    at i true e = get_or-append s (replicate k 0) 0 i (ltb-true _ _ e)
-    at i false e =
-        let h : length s ≤ i = ltb-false _ _ e in
-        get_or-append_right s (replicate k 0) (length s) i 0 refl h ∙ zero_at k (i - length s) (ltb (i - length s) k) refl ∙ sym (get_or-eq_default s 0 h)
+  pub word_more : w * 256 + get_or s (q - 1) 0 ≡ word_at (8 - (q - 1 - p)) s (q - 1)
+  unfolding word_at
+  word_more = rw (less, same) (ap (λ (x : ℕ). x * 256 + get_or s (q - 1) 0) e)
+    where
+      less : 8 - (q - 1 - p) ≡ suc (8 - (q - p))
+      less = omega arith
+
+      same : q - 1 + 1 ≡ q
+      same = omega arith
+
+-- down to p
+pub word_whole : (s : List ℕ) (p q : ℕ) → q ≤ p → (p ≤ q) ⊎ (length s ≤ q) → word_at (8 - (q - p)) s q ≡ word_at 8 s p
+word_whole s p q h (inl k) =
+    let e : q ≡ p = omega arith in
+    let n : 8 - (p - p) ≡ 8 = omega arith in
+    rw (e, n) refl
+word_whole s p q h (inr k) = word_out s (8 - (q - p)) q k ∙ sym (word_out s 8 p (omega arith))
