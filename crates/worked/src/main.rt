@@ -7,21 +7,22 @@ mod shown;
 mod streams;
 mod tokens;
 
-use refusal::{Cause, Format};
-use scan::Scan;
+use refusal::Format;
 use shown::{Hex, Shown};
 use std::io;
-use token::{Read, Unescaped};
-use varint::{Uvarint, Varint, Written};
+use token::{Copied, Placed};
+use varint::{ShortOutput, Varint};
 
 // A number, and the bytes that were written for it at the front of an area.
-fn written(rt: &impl Print, number: u64, written: Written, area: &[u8]) -> io::Result<()> {
+fn written(
+    rt: &impl Print,
+    number: u64,
+    written: Result<usize, ShortOutput>,
+    area: &[u8],
+) -> io::Result<()> {
     match written {
-        Written::Bytes { count } => {
-            let bytes = &area[..count.min(area.len())];
-            println!(rt; "{number} is {}", Hex(bytes))
-        }
-        Written::Short => println!(rt; "{number} {}", Shown(Cause::ShortOutput)),
+        Ok(count) => println!(rt; "{number} is {}", Hex(&area[..count.min(area.len())])),
+        Err(why) => println!(rt; "{number} {}", Shown(why)),
     }
 }
 
@@ -38,29 +39,24 @@ fn zigzag(rt: &impl Print, value: i64) -> io::Result<()> {
     let mut area = [0u8; 10];
     let count = varint::write_varint(value, &mut area);
     match varint::read_uvarint(&area, 0) {
-        Uvarint::Value { value, .. } => written(rt, value, count, &area),
-        Uvarint::More => println!(rt; "more"),
-        Uvarint::Refused { refusal } => println!(rt; "{}", Shown(refusal)),
-        Uvarint::Beyond => println!(rt; "{}", Shown(Cause::BeyondSlice)),
+        Ok(Varint { value, .. }) => written(rt, value, count, &area),
+        Err(why) => println!(rt; "{}", Shown(why)),
     }
 }
 
 // What a signed varint reads as.
 fn signed(rt: &impl Print, bytes: &[u8]) -> io::Result<()> {
     match varint::read_varint(bytes, 0) {
-        Varint::Value { value, next } => println!(rt; "{value} in {next}"),
-        Varint::More => println!(rt; "more"),
-        Varint::Refused { refusal } => println!(rt; "{}", Shown(refusal)),
-        Varint::Beyond => println!(rt; "{}", Shown(Cause::BeyondSlice)),
+        Ok(Varint { value, next }) => println!(rt; "{value} in {next}"),
+        Err(why) => println!(rt; "{}", Shown(why)),
     }
 }
 
 // What the scan answers.
 fn scanned(rt: &impl Print, bytes: &[u8], format: Format) -> io::Result<()> {
     match scan::scan_value(bytes, format) {
-        Scan::Complete { len } => println!(rt; "length {len}"),
-        Scan::Incomplete => println!(rt; "incomplete"),
-        Scan::Refused { refusal } => println!(rt; "{}", Shown(refusal)),
+        Ok(len) => println!(rt; "length {len}"),
+        Err(why) => println!(rt; "{}", Shown(why)),
     }
 }
 
@@ -69,15 +65,8 @@ fn string(rt: &impl Print, text: &str) -> io::Result<()> {
     print!(rt; "{text} : ")?;
     let mut area = [0u8; 16];
     match lexer::string_bytes(text.as_bytes(), 0, Format::Text, &mut area) {
-        Unescaped::Bytes { count, .. } => {
-            let bytes = &area[..count.min(area.len())];
-            println!(rt; "{}", Hex(bytes))
-        }
-        Unescaped::Incomplete => println!(rt; "incomplete"),
-        Unescaped::Refused { refusal } => println!(rt; "{}", Shown(refusal)),
-        Unescaped::Beyond => println!(rt; "{}", Shown(Cause::BeyondSlice)),
-        Unescaped::NotString => println!(rt; "{}", Shown(Cause::NotString)),
-        Unescaped::Short => println!(rt; "{}", Shown(Cause::ShortOutput)),
+        Ok(Copied { count, .. }) => println!(rt; "{}", Hex(&area[..count.min(area.len())])),
+        Err(why) => println!(rt; "{}", Shown(why)),
     }
 }
 
@@ -85,10 +74,8 @@ fn string(rt: &impl Print, text: &str) -> io::Result<()> {
 fn number(rt: &impl Print, text: &str) -> io::Result<()> {
     print!(rt; "{text} : ")?;
     match lexer::next_token(text.as_bytes(), 0, Format::Text) {
-        Read::Token { token, next, .. } => println!(rt; "{} of {next}", Shown(token)),
-        Read::Incomplete => println!(rt; "incomplete"),
-        Read::Refused { refusal } => println!(rt; "{}", Shown(refusal)),
-        Read::Beyond => println!(rt; "{}", Shown(Cause::BeyondSlice)),
+        Ok(Placed { token, next, .. }) => println!(rt; "{} of {next}", Shown(token)),
+        Err(why) => println!(rt; "{}", Shown(why)),
     }
 }
 

@@ -1,8 +1,10 @@
 // What the examples print, as text.
-use reader::Mark;
-use refusal::{Cause, Refusal};
+use cursor::NoByte;
+use reader::{BufferLength, Mark, NotTaken, Stopped, StrangeState};
+use refusal::{Cause, Refusal, Unread, Unwhole};
 use std::fmt;
-use token::Token;
+use token::{NoBytes, Token};
+use varint::ShortOutput;
 
 // Bytes in hex, a blank between them.
 #[derive(Clone, Copy)]
@@ -35,6 +37,98 @@ impl fmt::Display for Shown<Refusal> {
 impl fmt::Display for Shown<Cause> {
     fn fmt<W: fmt::Write>(&self, f: &mut fmt::Formatter<W>) -> fmt::Result {
         write!(f, "refused {}", self.0.number())
+    }
+}
+
+// Why nothing was read.
+impl fmt::Display for Shown<Unread> {
+    fn fmt<W: fmt::Write>(&self, f: &mut fmt::Formatter<W>) -> fmt::Result {
+        match self.0 {
+            Unread::Incomplete => write!(f, "incomplete"),
+            Unread::Refused(refusal) => write!(f, "{}", Shown(refusal)),
+            Unread::Beyond => write!(f, "{}", Shown(Cause::BeyondSlice)),
+        }
+    }
+}
+
+// Why there is no whole value.
+impl fmt::Display for Shown<Unwhole> {
+    fn fmt<W: fmt::Write>(&self, f: &mut fmt::Formatter<W>) -> fmt::Result {
+        match self.0 {
+            Unwhole::Incomplete => write!(f, "incomplete"),
+            Unwhole::Refused(refusal) => write!(f, "{}", Shown(refusal)),
+        }
+    }
+}
+
+// Why there is no next byte.
+impl fmt::Display for Shown<NoByte> {
+    fn fmt<W: fmt::Write>(&self, f: &mut fmt::Formatter<W>) -> fmt::Result {
+        match self.0 {
+            NoByte::Incomplete => write!(f, "incomplete"),
+            NoByte::Beyond => write!(f, "{}", Shown(Cause::BeyondSlice)),
+        }
+    }
+}
+
+// Why no string's bytes were written.
+impl fmt::Display for Shown<NoBytes> {
+    fn fmt<W: fmt::Write>(&self, f: &mut fmt::Formatter<W>) -> fmt::Result {
+        match self.0 {
+            NoBytes::Unread(unread) => write!(f, "{}", Shown(unread)),
+            NoBytes::NotString => write!(f, "{}", Shown(Cause::NotString)),
+            NoBytes::Short => write!(f, "{}", Shown(Cause::ShortOutput)),
+        }
+    }
+}
+
+impl fmt::Display for Shown<ShortOutput> {
+    fn fmt<W: fmt::Write>(&self, f: &mut fmt::Formatter<W>) -> fmt::Result {
+        write!(f, "{}", Shown(Cause::ShortOutput))
+    }
+}
+
+impl fmt::Display for Shown<BufferLength> {
+    fn fmt<W: fmt::Write>(&self, f: &mut fmt::Formatter<W>) -> fmt::Result {
+        write!(f, "{}", Shown(Cause::BufferLength))
+    }
+}
+
+impl fmt::Display for Shown<StrangeState> {
+    fn fmt<W: fmt::Write>(&self, f: &mut fmt::Formatter<W>) -> fmt::Result {
+        write!(f, "{}", Shown(Cause::StrangeState))
+    }
+}
+
+// Why nothing of a piece is taken.
+impl fmt::Display for Shown<NotTaken> {
+    fn fmt<W: fmt::Write>(&self, f: &mut fmt::Formatter<W>) -> fmt::Result {
+        let cause = match self.0 {
+            NotTaken::StrangeState => Cause::StrangeState,
+            NotTaken::AfterClosing => Cause::AfterClosing,
+            NotTaken::OffsetTooHigh => Cause::OffsetTooHigh,
+        };
+        write!(f, "{}", Shown(cause))
+    }
+}
+
+// Why there is no record.
+impl fmt::Display for Shown<Stopped> {
+    fn fmt<W: fmt::Write>(&self, f: &mut fmt::Formatter<W>) -> fmt::Result {
+        match self.0 {
+            Stopped::Malformed { offset, refusal } => {
+                let refused = Shown(Cause::MalformedRecord);
+                let (number, place) = (refusal.number(), refusal.place());
+                write!(f, "{refused} offset {offset} {number} at {place}")
+            }
+            Stopped::TooLong { offset, len } => {
+                write!(f, "{} offset {offset} {len}", Shown(Cause::RecordTooLong))
+            }
+            Stopped::CutShort { offset, held } => {
+                write!(f, "{} offset {offset} {held}", Shown(Cause::CutShort))
+            }
+            Stopped::StrangeState => write!(f, "{}", Shown(Cause::StrangeState)),
+        }
     }
 }
 

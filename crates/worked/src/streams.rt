@@ -1,76 +1,54 @@
 // The stream reader's answers, each refusal from 20 to 28 once but 26 and 27, which are no answers of its calls.
 use crate::shown::{Hex, Shown};
-use reader::{Closing, Found, Opening, State, Taking};
-use refusal::Cause;
+use reader::{Found, State};
 use std::io;
 
 // What opening over a buffer answers.
 fn open(rt: &impl Print, buf: &[u8]) -> io::Result<()> {
     print!(rt; "buffer of {} : ", buf.len())?;
     match reader::open(0, buf).answer {
-        Opening::Ready => println!(rt; "open"),
-        Opening::BufferLength => println!(rt; "{}", Shown(Cause::BufferLength)),
+        Ok(()) => println!(rt; "open"),
+        Err(why) => println!(rt; "{}", Shown(why)),
     }
 }
 
 // A piece is offered, and next called after it.
 fn piece(rt: &impl Print, state: &mut State, buf: &mut [u8], bytes: &[u8]) -> io::Result<()> {
-    let offered = state.offer(buf, bytes);
-    *state = offered.state;
     print!(rt; "piece : ")?;
-    match offered.answer {
-        Taking::Taken { count } => println!(rt; "taken {count}"),
-        Taking::StrangeState => println!(rt; "{}", Shown(Cause::StrangeState)),
-        Taking::AfterClosing => println!(rt; "{}", Shown(Cause::AfterClosing)),
-        Taking::OffsetTooHigh => println!(rt; "{}", Shown(Cause::OffsetTooHigh)),
+    match state.offer(buf, bytes) {
+        Ok(count) => println!(rt; "taken {count}"),
+        Err(why) => println!(rt; "{}", Shown(why)),
     }?;
     next(rt, state, buf)
 }
 
 // The next record with its bytes, or why there is none, and how many readings that took.
 fn next(rt: &impl Print, state: &mut State, buf: &[u8]) -> io::Result<()> {
-    let next = state.next(buf);
-    *state = next.state;
     print!(rt; "next : ")?;
+    let next = state.next(buf);
     match next.answer {
-        Found::Record {
+        Ok(Found::Record {
             place,
             length,
             offset,
             mark,
-        } => {
+        }) => {
             let bytes = Hex(reader::record(buf, place, length));
             let mark = Shown(mark);
             print!(rt; "record at {place} length {length} offset {offset} {mark}: {bytes}")
         }
-        Found::Malformed { offset, refusal } => {
-            let refused = Shown(Cause::MalformedRecord);
-            print!(rt;
-                "{refused} offset {offset} {} at {}",
-                refusal.number(),
-                refusal.place()
-            )
-        }
-        Found::TooLong { offset, len } => {
-            print!(rt; "{} offset {offset} {len}", Shown(Cause::RecordTooLong))
-        }
-        Found::CutShort { offset, held } => {
-            print!(rt; "{} offset {offset} {held}", Shown(Cause::CutShort))
-        }
-        Found::StrangeState => print!(rt; "{}", Shown(Cause::StrangeState)),
-        Found::End => print!(rt; "end"),
-        Found::More => print!(rt; "more"),
+        Ok(Found::End) => print!(rt; "end"),
+        Ok(Found::More) => print!(rt; "more"),
+        Err(why) => print!(rt; "{}", Shown(why)),
     }?;
     println!(rt; ", readings {}", next.readings)
 }
 
 fn close(rt: &impl Print, state: &mut State, buf: &[u8]) -> io::Result<()> {
-    let closed = state.close(buf);
-    *state = closed.state;
     print!(rt; "close : ")?;
-    match closed.answer {
-        Closing::Done => println!(rt; "done"),
-        Closing::StrangeState => println!(rt; "{}", Shown(Cause::StrangeState)),
+    match state.close(buf) {
+        Ok(()) => println!(rt; "done"),
+        Err(why) => println!(rt; "{}", Shown(why)),
     }
 }
 

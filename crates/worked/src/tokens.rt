@@ -2,26 +2,27 @@
 ghost use Rattle.std.specs.Prelude.{◌≡◌};
 
 use crate::shown::{Hex, Shown};
-use cursor::{Peek, YsonIterator};
+use cursor::{Peeked, YsonIterator};
 use lookup::Count;
-use refusal::{Cause, Format};
+use refusal::Format;
 use std::io;
-use token::Read;
+use token::Placed;
 
 // The tokens of some bytes, a line for each, as the cursor reads them, and how many they are.
 fn walk(rt: &impl Print, bytes: &[u8], format: Format) -> io::Result<()> {
     let mut at = 0;
-    while let Read::Token { token, first, next } = lookup::token_at(bytes, at, format) {
+    while let Ok(Placed { token, first, next }) = lookup::token_at(bytes, at, format) {
         println!(rt; "{} at {first} end {next}", Shown(token))?;
         at = next;
     }
-    match lookup::count_tokens(bytes, format) {
-        Count::Tokens { count, end } => println!(rt; "{count} tokens to {end}"),
-        Count::Refused {
-            count,
-            end,
-            refusal,
-        } => println!(rt; "{count} tokens to {end}, then {}", Shown(refusal)),
+    let Count {
+        count,
+        end,
+        refusal,
+    } = lookup::count_tokens(bytes, format);
+    match refusal {
+        None => println!(rt; "{count} tokens to {end}"),
+        Some(refusal) => println!(rt; "{count} tokens to {end}, then {}", Shown(refusal)),
     }
 }
 
@@ -37,9 +38,8 @@ fn peek(rt: &impl Print, text: &str, at: usize) -> io::Result<()> {
     let bytes = text.as_bytes();
     print!(rt; "{text} from {} : ", standing(bytes, at, Format::Text))?;
     match lookup::peek_at(bytes, at, Format::Text) {
-        Peek::Byte { byte, place } => println!(rt; "{byte:02x} at {place}"),
-        Peek::Incomplete => println!(rt; "incomplete"),
-        Peek::Beyond => println!(rt; "{}", Shown(Cause::BeyondSlice)),
+        Ok(Peeked { byte, place }) => println!(rt; "{byte:02x} at {place}"),
+        Err(why) => println!(rt; "{}", Shown(why)),
     }
 }
 

@@ -7,7 +7,7 @@ pub loop-token-smaller : goal.loop-token-smaller
 loop-token-smaller g c =
     let x = c.args in
     let at = c.loop-token.at in
-    let is = read_is x.format x.bytes.now at c.token_at.result _ c.loop-token.invariant c.token_at.ensures c.in-Token.is in
+    let is = read_is x.format x.bytes.now at c.token_at.result _ c.loop-token.invariant c.token_at.ensures c.in-Ok.is in
     let grows = token_grows x.format x.bytes.now at is in
     omega (arith, grows.0, grows.1)
 
@@ -15,5 +15,5 @@ pub loop-token-preserved : goal.loop-token-preserved
 loop-token-preserved g c =
     let x = c.args in
     let at = c.loop-token.at in
-    let is = read_is x.format x.bytes.now at c.token_at.result _ c.loop-token.invariant c.token_at.ensures c.in-Token.is in
+    let is = read_is x.format x.bytes.now at c.token_at.result _ c.loop-token.invariant c.token_at.ensures c.in-Ok.is in
     (token_grows x.format x.bytes.now at is).1
