@@ -7,13 +7,12 @@ use crate::line::Line;
 use crate::read;
 use crate::read::Unanswered;
 use crate::shown::Shown;
-use reader::{Found, Opening, State, Taking};
-use refusal::Cause;
+use reader::{Found, State};
 use std::io::Stdin;
 
 // No piece is offered any more, and the line says why.
 #[derive(Clone, Copy)]
-struct Stopped;
+struct Told;
 
 // A stream under way: the readings, and the calls of next that handed out no record and left a buffered byte unpassed.
 #[derive(Drop)]
@@ -26,18 +25,18 @@ struct Stream<'a> {
 
 impl Stream<'_> {
     // Next, until it wants more.
-    fn drain(&mut self, line: &mut Line) -> Result<(), Stopped> {
+    fn drain(&mut self, line: &mut Line) -> Result<(), Told> {
         for _ in 0..u64::MAX {
             line.spare();
-            let next = self.state.next(self.buf);
-            self.state = next.state;
+            let buf = &mut *self.buf;
+            let next = self.state.next(buf);
             self.readings = self.readings.wrapping_add(next.readings as u64);
-            if let Found::Record {
+            if let Ok(Found::Record {
                 length,
                 offset,
                 mark,
                 ..
-            } = next.answer
+            }) = next.answer
             {
                 line.put(format_args!("{offset} {length} {}; ", Shown(mark)));
                 continue;
@@ -46,48 +45,33 @@ impl Stream<'_> {
                 self.nexts = self.nexts.wrapping_add(1);
             }
             match next.answer {
-                Found::More => return Ok(()),
-                Found::Malformed { offset, refusal } => line.put(format_args!(
-                    "{} {offset} {} {}",
-                    Shown(Cause::MalformedRecord),
-                    refusal.number(),
-                    refusal.place()
-                )),
-                Found::TooLong { offset, len } => {
-                    line.put(format_args!("{} {offset} {len}", Shown(Cause::RecordTooLong)))
-                }
-                Found::CutShort { offset, held } => {
-                    line.put(format_args!("{} {offset} {held}", Shown(Cause::CutShort)))
-                }
-                Found::End => line.put(format_args!("end {}", self.state.offset)),
-                _ => line.put(Shown(Cause::StrangeState)),
+                Ok(Found::End) => line.put(format_args!("end {}", self.state.offset)),
+                Ok(_) => return Ok(()),
+                Err(why) => line.put(Shown(why)),
             }
-            return Err(Stopped);
+            return Err(Told);
         }
-        Err(Stopped)
+        Err(Told)
     }
 
     // A piece is offered, and next called after it; answers what is left of it.
-    fn offer<'p>(&mut self, line: &mut Line, piece: &'p [u8]) -> Result<&'p [u8], Stopped>
+    fn offer<'p>(&mut self, line: &mut Line, piece: &'p [u8]) -> Result<&'p [u8], Told>
         ensures { IfOk result (λ rest. length rest.now ≤ length piece.now) }
     {
-        let offered = self.state.offer(self.buf, piece);
-        self.state = offered.state;
-        let cause = match offered.answer {
-            Taking::Taken { count } => {
+        match self.state.offer(self.buf, piece) {
+            Ok(count) => {
                 self.drain(line)?;
-                return Ok(&piece[count.min(piece.len())..]);
+                Ok(&piece[count.min(piece.len())..])
             }
-            Taking::StrangeState => Cause::StrangeState,
-            Taking::AfterClosing => Cause::AfterClosing,
-            Taking::OffsetTooHigh => Cause::OffsetTooHigh,
-        };
-        line.put(Shown(cause));
-        Err(Stopped)
+            Err(why) => {
+                line.put(Shown(why));
+                Err(Told)
+            }
+        }
     }
 
     // One piece, offered at least once and until it is taken.
-    fn feed(&mut self, line: &mut Line, piece: &[u8]) -> Result<(), Stopped> {
+    fn feed(&mut self, line: &mut Line, piece: &[u8]) -> Result<(), Told> {
         let mut left = self.offer(line, piece)?;
         while !left.is_empty() {
             let rest = self.offer(line, left)?;
@@ -100,8 +84,9 @@ impl Stream<'_> {
     }
 
     // No piece follows.
-    fn close(&mut self, line: &mut Line) -> Result<(), Stopped> {
-        self.state = self.state.close(self.buf).state;
+    fn close(&mut self, line: &mut Line) -> Result<(), Told> {
+        let buf = &mut *self.buf;
+        let _ = self.state.close(buf);
         self.drain(line)
     }
 }
@@ -152,13 +137,10 @@ pub fn answer(
         readings: 0,
         nexts: 0,
     };
-    let mut going = match opened.answer {
-        Opening::Ready => Ok(()),
-        Opening::BufferLength => {
-            line.put(Shown(Cause::BufferLength));
-            Err(Stopped)
-        }
-    };
+    let mut going = opened.answer.map_err(|why| {
+        line.put(Shown(why));
+        Told
+    });
     while left > 0 {
         let piece = next_piece(stdin, left, chunk)?;
         left -= piece.len() as u64 + 2;

@@ -4,6 +4,9 @@ use std::fmt;
 use std::fmt::{Display, Write as _};
 use std::io::{Stdout, Write as _};
 
+// The hex digits.
+const HEX: &[u8; 16] = b"0123456789abcdef";
+
 #[derive(Drop)]
 pub struct Line<'a> {
     stdout: Stdout,
@@ -57,7 +60,8 @@ impl<'a> Line<'a> {
         }
         for b in bytes {
             self.spare();
-            self.put(format_args!("{b:02x}"));
+            let digits = [HEX[usize::from(b / 16)], HEX[usize::from(b % 16)]];
+            self.text.put(&digits);
         }
     }
 

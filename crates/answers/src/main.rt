@@ -30,7 +30,10 @@ struct Desk<'a> {
 // What the scan answers.
 fn scan(line: &mut Line, payload: &[u8], format: Format) -> Result<(), Unanswered> {
     let bytes = read::within(payload)?;
-    line.put(Shown(scan::scan_value(bytes, format)));
+    match scan::scan_value(bytes, format) {
+        Ok(len) => line.put(format_args!("length {len}")),
+        Err(why) => line.put(Shown(why)),
+    }
     Ok(())
 }
 

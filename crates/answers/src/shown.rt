@@ -1,10 +1,9 @@
 // How lines show what the library answers.
-use reader::Mark;
-use refusal::{Cause, Refusal};
-use scan::Scan;
+use reader::{BufferLength, Mark, NotTaken, Stopped};
+use refusal::{Cause, Refusal, Unread, Unwhole};
 use std::fmt;
-use token::{Read, Token, Unescaped};
-use varint::{Uvarint, Varint};
+use token::{Copied, NoBytes, Placed, Token};
+use varint::{ShortOutput, Varint};
 
 #[derive(Clone, Copy)]
 pub struct Shown<T>(pub T);
@@ -24,35 +23,102 @@ impl fmt::Display for Shown<Cause> {
     }
 }
 
-impl fmt::Display for Shown<Scan> {
+// Why there is no whole value.
+impl fmt::Display for Shown<Unwhole> {
     fn fmt<W: fmt::Write>(&self, f: &mut fmt::Formatter<W>) -> fmt::Result {
         match self.0 {
-            Scan::Complete { len } => write!(f, "length {len}"),
-            Scan::Incomplete => write!(f, "more"),
-            Scan::Refused { refusal } => write!(f, "{}", Shown(refusal)),
+            Unwhole::Incomplete => write!(f, "more"),
+            Unwhole::Refused(refusal) => write!(f, "{}", Shown(refusal)),
         }
     }
 }
 
-impl fmt::Display for Shown<Uvarint> {
+// Why nothing was read.
+impl fmt::Display for Shown<Unread> {
     fn fmt<W: fmt::Write>(&self, f: &mut fmt::Formatter<W>) -> fmt::Result {
         match self.0 {
-            Uvarint::Value { value, next } => write!(f, "value {value} {next}"),
-            Uvarint::More => write!(f, "more"),
-            Uvarint::Refused { refusal } => write!(f, "{}", Shown(refusal)),
-            Uvarint::Beyond => write!(f, "{}", Shown(Cause::BeyondSlice)),
+            Unread::Incomplete => write!(f, "more"),
+            Unread::Refused(refusal) => write!(f, "{}", Shown(refusal)),
+            Unread::Beyond => write!(f, "{}", Shown(Cause::BeyondSlice)),
         }
     }
 }
 
-impl fmt::Display for Shown<Varint> {
+// Why no string's bytes were written.
+impl fmt::Display for Shown<NoBytes> {
     fn fmt<W: fmt::Write>(&self, f: &mut fmt::Formatter<W>) -> fmt::Result {
         match self.0 {
-            Varint::Value { value, next } => write!(f, "value {value} {next}"),
-            Varint::More => write!(f, "more"),
-            Varint::Refused { refusal } => write!(f, "{}", Shown(refusal)),
-            Varint::Beyond => write!(f, "{}", Shown(Cause::BeyondSlice)),
+            NoBytes::Unread(unread) => write!(f, "{}", Shown(unread)),
+            NoBytes::NotString => write!(f, "{}", Shown(Cause::NotString)),
+            NoBytes::Short => write!(f, "{}", Shown(Cause::ShortOutput)),
         }
+    }
+}
+
+impl fmt::Display for Shown<ShortOutput> {
+    fn fmt<W: fmt::Write>(&self, f: &mut fmt::Formatter<W>) -> fmt::Result {
+        write!(f, "{}", Shown(Cause::ShortOutput))
+    }
+}
+
+impl fmt::Display for Shown<BufferLength> {
+    fn fmt<W: fmt::Write>(&self, f: &mut fmt::Formatter<W>) -> fmt::Result {
+        write!(f, "{}", Shown(Cause::BufferLength))
+    }
+}
+
+// Why nothing of a piece is taken.
+impl fmt::Display for Shown<NotTaken> {
+    fn fmt<W: fmt::Write>(&self, f: &mut fmt::Formatter<W>) -> fmt::Result {
+        let cause = match self.0 {
+            NotTaken::StrangeState => Cause::StrangeState,
+            NotTaken::AfterClosing => Cause::AfterClosing,
+            NotTaken::OffsetTooHigh => Cause::OffsetTooHigh,
+        };
+        write!(f, "{}", Shown(cause))
+    }
+}
+
+// Why a stream's next record is none.
+impl fmt::Display for Shown<Stopped> {
+    fn fmt<W: fmt::Write>(&self, f: &mut fmt::Formatter<W>) -> fmt::Result {
+        match self.0 {
+            Stopped::Malformed { offset, refusal } => {
+                let refused = Shown(Cause::MalformedRecord);
+                let (number, place) = (refusal.number(), refusal.place());
+                write!(f, "{refused} {offset} {number} {place}")
+            }
+            Stopped::TooLong { offset, len } => {
+                write!(f, "{} {offset} {len}", Shown(Cause::RecordTooLong))
+            }
+            Stopped::CutShort { offset, held } => {
+                write!(f, "{} {offset} {held}", Shown(Cause::CutShort))
+            }
+            Stopped::StrangeState => write!(f, "{}", Shown(Cause::StrangeState)),
+        }
+    }
+}
+
+// What was answered, or why not.
+impl<T, E> fmt::Display for Shown<Result<T, E>>
+where
+    T: Copy,
+    E: Copy,
+    Shown<T>: fmt::Display,
+    Shown<E>: fmt::Display,
+{
+    fn fmt<W: fmt::Write>(&self, f: &mut fmt::Formatter<W>) -> fmt::Result {
+        match self.0 {
+            Ok(answer) => write!(f, "{}", Shown(answer)),
+            Err(why) => write!(f, "{}", Shown(why)),
+        }
+    }
+}
+
+impl<T: fmt::Display> fmt::Display for Shown<Varint<T>> {
+    fn fmt<W: fmt::Write>(&self, f: &mut fmt::Formatter<W>) -> fmt::Result {
+        let Varint { value, next } = &self.0;
+        write!(f, "value {value} {next}")
     }
 }
 
@@ -80,32 +146,20 @@ impl fmt::Display for Shown<Token> {
     }
 }
 
-// A token with the place of its first byte and the place after it, or why there is none.
-impl fmt::Display for Shown<Read> {
+// A token with the place of its first byte and the place after it.
+impl fmt::Display for Shown<Placed> {
     fn fmt<W: fmt::Write>(&self, f: &mut fmt::Formatter<W>) -> fmt::Result {
-        match self.0 {
-            Read::Token { token, first, next } => {
-                let token = Shown(token);
-                write!(f, "{token} at {first} end {next}")
-            }
-            Read::Incomplete => write!(f, "more"),
-            Read::Refused { refusal } => write!(f, "{}", Shown(refusal)),
-            Read::Beyond => write!(f, "{}", Shown(Cause::BeyondSlice)),
-        }
+        let Placed { token, first, next } = self.0;
+        let token = Shown(token);
+        write!(f, "{token} at {first} end {next}")
     }
 }
 
-// How many bytes a string has and the place after it, or why there is none.
-impl fmt::Display for Shown<Unescaped> {
+// How many bytes a string has and the place after it.
+impl fmt::Display for Shown<Copied> {
     fn fmt<W: fmt::Write>(&self, f: &mut fmt::Formatter<W>) -> fmt::Result {
-        match self.0 {
-            Unescaped::Bytes { count, next } => write!(f, "string {count} end {next}"),
-            Unescaped::Incomplete => write!(f, "more"),
-            Unescaped::Refused { refusal } => write!(f, "{}", Shown(refusal)),
-            Unescaped::Beyond => write!(f, "{}", Shown(Cause::BeyondSlice)),
-            Unescaped::NotString => write!(f, "{}", Shown(Cause::NotString)),
-            Unescaped::Short => write!(f, "{}", Shown(Cause::ShortOutput)),
-        }
+        let Copied { count, next } = self.0;
+        write!(f, "string {count} end {next}")
     }
 }
 

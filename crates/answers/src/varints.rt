@@ -3,27 +3,36 @@ use crate::line::Line;
 use crate::read;
 use crate::read::Unanswered;
 use crate::shown::Shown;
-use refusal::Cause;
-use varint::Written;
+use refusal::Unread;
+use std::fmt::Display;
+use varint::{ShortOutput, Varint};
 
-// Kind 3: `value V NEXT`, `more`, `refused NO PLACE` or `refused 26`.
-pub fn read_unsigned(line: &mut Line, payload: &[u8]) -> Result<(), Unanswered> {
+// A varint of some bytes at a place, read by `read`: `value V NEXT`, `more`, `refused NO PLACE` or `refused 26`.
+fn read<T: Display + Copy, F: FnOnce(&[u8], usize) -> Result<Varint<T>, Unread>>(
+    line: &mut Line,
+    payload: &[u8],
+    read: F,
+) -> Result<(), Unanswered>
+    requires { F.IsAlwaysCallable read }
+{
     let (place, bytes) = read::number(payload)?;
     let bytes = read::within(bytes)?;
-    line.put(Shown(varint::read_uvarint(bytes, place)));
+    line.put(Shown(read(bytes, place)));
     Ok(())
 }
 
-// Kind 4: the same of a signed varint.
+// Kind 3: an unsigned varint.
+pub fn read_unsigned(line: &mut Line, payload: &[u8]) -> Result<(), Unanswered> {
+    read(line, payload, varint::read_uvarint)
+}
+
+// Kind 4: a signed varint.
 pub fn read_signed(line: &mut Line, payload: &[u8]) -> Result<(), Unanswered> {
-    let (place, bytes) = read::number(payload)?;
-    let bytes = read::within(bytes)?;
-    line.put(Shown(varint::read_varint(bytes, place)));
-    Ok(())
+    read(line, payload, varint::read_varint)
 }
 
 // A number of eight bytes, written by `write` into an output of so many bytes AA: `wrote COUNT BYTES` or `refused 27 BYTES`.
-fn write<F: FnOnce([u8; 8], &mut [u8]) -> Written>(
+fn write<F: FnOnce([u8; 8], &mut [u8]) -> Result<usize, ShortOutput>>(
     line: &mut Line,
     payload: &[u8],
     write: F,
@@ -36,8 +45,8 @@ fn write<F: FnOnce([u8; 8], &mut [u8]) -> Written>(
     let mut area = [0xAAu8; 255];
     let out = &mut area[..usize::from(room)];
     match write(*value, out) {
-        Written::Bytes { count } => line.put(format_args!("wrote {count} ")),
-        Written::Short => line.put(format_args!("{} ", Shown(Cause::ShortOutput))),
+        Ok(count) => line.put(format_args!("wrote {count} ")),
+        Err(why) => line.put(format_args!("{} ", Shown(why))),
     }
     line.put_bytes(out);
     Ok(())
