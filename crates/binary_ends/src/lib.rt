@@ -15,6 +15,7 @@ ghost use Rattle.binary_ends.specs.Short.{short_string_end};
 use varint::Varint;
 
 // The size of a scalar that is not told by the bytes looked at.
+// Kept: in instructions Option<usize> took 1.07 on flat binary, 1.08 on integers, 1.02 on deep mixed; Option<u8> took 1.09, 1.10, 1.03.
 const UNKNOWN: usize = 1000;
 
 // The place after a string whose zigzag length was read up to `next`, unless that is below zero or the bytes end before.

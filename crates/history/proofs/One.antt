@@ -10,8 +10,8 @@ use Rattle.refusal.specs.Paper.{Paper, gives, more, refused, pick}
 use Rattle.refusal.specs.Meaning.{named_by}
 use Rattle.refusal.proofs.Laws.{named_by_its_number}
 use Rattle.kept.specs.declared.Blocks.{Blocks}
-use Rattle.blocks.specs.declared.What.{What}
-use Rattle.blocks.specs.declared.What.TheVariants as what
+use Rattle.refusal.specs.declared.Unwhole.{Unwhole}
+use Rattle.refusal.specs.declared.Unwhole.TheVariants as unwhole
 use Rattle.blocks.specs.declared.Run.{Run}
 use Rattle.blocks.specs.Readings.{Reached, what_meaning, run_meaning}
 use Rattle.reader.specs.declared.State.{State}
@@ -115,21 +115,21 @@ next_injective r q s t e =
 
 -- ---- the readings
 
-what_back : Paper ℕ → What
-what_back (gives n) = what.Whole n
-what_back more = what.Unfinished
-what_back (refused n vs) = what.Refused (named_by n (value_of vs))
+what_back : Paper ℕ → Result ℕ Unwhole
+what_back (gives n) = Ok n
+what_back more = Err unwhole.Incomplete
+what_back (refused n vs) = Err (unwhole.Refused (named_by n (value_of vs)))
 
-what_undone : (a : What) → what_back (what_meaning a) ≡ a
+what_undone : (a : Result ℕ Unwhole) → what_back (what_meaning a) ≡ a
 unfolding what_back value_of
-what_undone (what.Whole n) = refl
-what_undone what.Unfinished = refl
-what_undone (what.Refused r) = ap what.Refused (named_by_its_number r)
+what_undone (Ok n) = refl
+what_undone (Err unwhole.Incomplete) = refl
+what_undone (Err (unwhole.Refused r)) = ap (λ (x : Refusal). Err (unwhole.Refused x)) (named_by_its_number r)
 
-pub run_injective : (r q : Run) → run_meaning r ≡ run_meaning q → r ≡ q
-run_injective r q e =
+pub run_injective : (r q : Run) (b c : Blocks) → run_meaning r b ≡ run_meaning q c → (r ≡ q) × (b ≡ c)
+run_injective r q b c e =
     let a : r.what ≡ q.what = sym (what_undone r.what) ∙ ap (λ (x : Reached). what_back x.answer) e ∙ what_undone q.what in
     let p : r.place ≡ q.place = ap (λ (x : Reached). x.place) e in
     let n : r.readings ≡ q.readings = ap (λ (x : Reached). x.readings) e in
-    let b : r.blocks ≡ q.blocks = ap (λ (x : Reached). x.blocks) e in
-    ap₂ (λ (x : What) (k : ℕ). record { place = k; readings = r.readings; blocks = r.blocks; what = x }) a p ∙ ap₂ (λ (k : ℕ) (c : Blocks). record { place = q.place; readings = k; blocks = c; what = q.what }) n b
+    let w : r ≡ record { place = q.place; readings = q.readings; what = r.what } = ap₂ (λ (k m : ℕ). record { place = k; readings = m; what = r.what }) p n in
+    (w ∙ ap (λ (x : Result ℕ Unwhole). record { place = q.place; readings = q.readings; what = x }) a, ap (λ (x : Reached). x.blocks) e)

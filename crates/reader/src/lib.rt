@@ -1,23 +1,25 @@
 // The stream reader: successive records from a lent buffer that is filled piece by piece. What a call answers is decided by
 // specs/Calls.antt, which reads as document 01's "The stream"; 28's tests stand in specs/Fits.antt, those of numbers alone in crate
-// `places` and those of the open blocks in crate `kept`. A call that is refused leaves the state as it was, but for `next`.
+// `places` and those of the open blocks in crate `kept`. The calls change the state in place.
 #![tactic(auto)]
 
-ghost use Rattle.std.specs.Prelude.{◌≡◌, ◌≤◌, ℕ, length};
-ghost use Rattle.blocks.specs.Readings.{run_meaning};
+ghost use Rattle.std.specs.Prelude.{◌≡◌, ◌+◌, ◌-◌, ◌≤◌, ℕ, length};
+ghost use Rattle.places.specs.Places.{most_offset};
+ghost use Rattle.blocks.specs.Readings.{what_meaning, run_meaning};
 ghost use Rattle.reader.specs.Fits.{fits, Fitting};
 ghost use Rattle.reader.specs.Meaning.{looked, found_meaning, opened_meaning, offered_meaning, closed_meaning, next_meaning};
 ghost use Rattle.reader.specs.Calls.{new_state, open_of, offer_of, buffer_of, close_of, skipped_of, mark_of, wait_of, hand_out, next_of, Within};
 
-use blocks::{Run, What};
+use blocks::Run;
 use kept::Blocks;
-use refusal::Refusal;
+use refusal::{Refusal, Unwhole};
 
 // The bytes of a record that was handed out.
 pub use buffer::record;
 
 // Where a stream stands between calls. `offset` is the stream offset of the byte at `start`, the first that is neither handed out
 // nor skipped; `place` is the end of the last token passed, and `filled` that of the bytes taken.
+// Kept: places beside a buffer that is lent to each call, since the theorems of `stream` and `history` speak of a state and bytes apart.
 #[derive(Clone, Copy)]
 pub struct State {
     pub len: usize,
@@ -92,7 +94,7 @@ pub enum Found {
 }
 
 // Why next stops.
-#[derive(Clone, Copy)]
+#[derive(Clone, Copy, Debug, PartialEq, Eq)]
 pub enum Stopped {
     // 20: the record at the offset is malformed; the refusal's place counts from its first byte.
     Malformed { offset: u64, refusal: Refusal },
@@ -105,7 +107,7 @@ pub enum Stopped {
 }
 
 // What next answers, and how many readings that took.
-#[derive(Clone, Copy)]
+#[derive(Clone, Copy, Debug, PartialEq, Eq)]
 pub struct Next {
     pub answer: Result<Found, Stopped>,
     pub readings: usize,
@@ -194,7 +196,7 @@ impl State {
         }
         self.skip(buf);
         let passed = self.place - self.start;
-        let run = blocks::pass(self.blocks, &buf[self.start..self.filled], passed);
+        let run = blocks::pass(&mut self.blocks, &buf[self.start..self.filled], passed);
         self.hand_out(run, buf)
     }
 
@@ -225,13 +227,14 @@ impl State {
 
     // Moves the state behind the tokens that `run` read, and says what comes of them.
     fn hand_out(&mut self, run: Run, buf: &[u8]) -> Next
-        requires { Fitting self.old (length buf.now) × Within self.old (run_meaning run) }
-        ensures { next_meaning result self.new ≡ hand_out (run_meaning run).answer self.old (run_meaning run) buf.now }
+        requires held { (self.old.start ≤ self.old.filled) × (self.old.filled ≤ length buf.now) }
+        requires sum { self.old.offset + (self.old.filled - self.old.start) ≤ most_offset }
+        requires within { Within self.old (run_meaning run self.old.blocks) }
+        ensures { next_meaning result self.new ≡ hand_out (what_meaning run.what) self.old (run_meaning run self.old.blocks) buf.now }
     {
         self.place = self.start + run.place;
-        self.blocks = run.blocks;
         let answer = match run.what {
-            What::Whole(length) => {
+            Ok(length) => {
                 let record = Found::Record {
                     place: self.start,
                     length,
@@ -243,11 +246,11 @@ impl State {
                 self.place = self.start;
                 Ok(record)
             }
-            What::Refused(refusal) => Err(Stopped::Malformed {
+            Err(Unwhole::Refused(refusal)) => Err(Stopped::Malformed {
                 offset: self.offset,
                 refusal,
             }),
-            What::Unfinished => self.waiting(),
+            Err(Unwhole::Incomplete) => self.waiting(),
         };
         Next {
             answer,
