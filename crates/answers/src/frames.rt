@@ -31,12 +31,14 @@ impl Stream<'_> {
             let buf = &mut *self.buf;
             let next = self.state.next(buf);
             self.readings = self.readings.wrapping_add(next.readings as u64);
-            if let Ok(Found::Record {
-                length,
-                offset,
-                mark,
-                ..
-            }) = next.answer
+            if let Ok(
+                Found::Record {
+                    length,
+                    offset,
+                    mark,
+                    ..
+                },
+            ) = next.answer
             {
                 line.put(format_args!("{offset} {length} {}; ", Shown(mark)));
                 continue;

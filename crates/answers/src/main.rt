@@ -57,11 +57,13 @@ impl Desk<'_> {
         read::fill(*stdin, payload)?;
         match kind? {
             Kind::Scan(format) => scan(line, payload, format),
-            Kind::ReadUnsigned => varints::read_unsigned(line, payload),
-            Kind::ReadSigned => varints::read_signed(line, payload),
+            Kind::ReadUnsigned => tokens::at_place(line, payload, varint::read_uvarint),
+            Kind::ReadSigned => tokens::at_place(line, payload, varint::read_varint),
             Kind::WriteUnsigned => varints::write_unsigned(line, payload),
             Kind::WriteSigned => varints::write_signed(line, payload),
-            Kind::Token(format) => tokens::token(line, payload, format),
+            Kind::Token(format) => tokens::at_place(line, payload, |bytes, place| {
+                lookup::token_at(bytes, place, format)
+            }),
             Kind::String(format) => tokens::string(line, payload, format, area),
             Kind::Frame => unreachable!(),
         }

@@ -99,22 +99,6 @@ impl fmt::Display for Shown<Stopped> {
     }
 }
 
-// What was answered, or why not.
-impl<T, E> fmt::Display for Shown<Result<T, E>>
-where
-    T: Copy,
-    E: Copy,
-    Shown<T>: fmt::Display,
-    Shown<E>: fmt::Display,
-{
-    fn fmt<W: fmt::Write>(&self, f: &mut fmt::Formatter<W>) -> fmt::Result {
-        match self.0 {
-            Ok(answer) => write!(f, "{}", Shown(answer)),
-            Err(why) => write!(f, "{}", Shown(why)),
-        }
-    }
-}
-
 impl<T: fmt::Display> fmt::Display for Shown<Varint<T>> {
     fn fmt<W: fmt::Write>(&self, f: &mut fmt::Formatter<W>) -> fmt::Result {
         let Varint { value, next } = &self.0;

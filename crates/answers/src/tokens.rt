@@ -1,19 +1,31 @@
-// Kinds 7 to 10: a token, and a string's bytes.
+// Kinds 3, 4 and 7 to 10: a varint or a token at a place, and a string's bytes.
 use crate::line::Line;
 use crate::read;
 use crate::read::{MOST_BYTES, Unanswered};
 use crate::shown::Shown;
-use refusal::Format;
+use refusal::{Format, Unread};
+use std::fmt::Display;
 
-// Kinds 7 and 8: the token at a place.
-pub fn token(line: &mut Line, payload: &[u8], format: Format) -> Result<(), Unanswered> {
+// What `reading` answers of some bytes at a place.
+pub fn at_place<T: Copy, F: FnOnce(&[u8], usize) -> Result<T, Unread>>(
+    line: &mut Line,
+    payload: &[u8],
+    reading: F,
+) -> Result<(), Unanswered>
+where
+    Shown<T>: Display,
+    requires { F.IsAlwaysCallable reading }
+{
     let (place, bytes) = read::number(payload)?;
     let bytes = read::within(bytes)?;
-    line.put(Shown(lookup::token_at(bytes, place, format)));
+    match reading(bytes, place) {
+        Ok(answer) => line.put(Shown(answer)),
+        Err(why) => line.put(Shown(why)),
+    }
     Ok(())
 }
 
-// Kinds 9 and 10: the bytes of the string at a place, into an output of so many bytes AA.
+// The bytes of the string at a place, into an output of so many bytes AA.
 pub fn string(
     line: &mut Line,
     payload: &[u8],
@@ -28,7 +40,10 @@ pub fn string(
     }
     let out = &mut area[..room];
     out.fill(0xAA);
-    line.put(Shown(lookup::string_at(bytes, place, format, out)));
+    match lookup::string_at(bytes, place, format, out) {
+        Ok(copied) => line.put(Shown(copied)),
+        Err(why) => line.put(Shown(why)),
+    }
     line.put(" ");
     line.put_bytes(out);
     Ok(())

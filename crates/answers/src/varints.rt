@@ -1,35 +1,8 @@
-// Kinds 3 to 6: varints, read and written.
+// Kinds 5 and 6: varints, written.
 use crate::line::Line;
-use crate::read;
 use crate::read::Unanswered;
 use crate::shown::Shown;
-use refusal::Unread;
-use std::fmt::Display;
-use varint::{ShortOutput, Varint};
-
-// A varint of some bytes at a place, read by `read`: `value V NEXT`, `more`, `refused NO PLACE` or `refused 26`.
-fn read<T: Display + Copy, F: FnOnce(&[u8], usize) -> Result<Varint<T>, Unread>>(
-    line: &mut Line,
-    payload: &[u8],
-    read: F,
-) -> Result<(), Unanswered>
-    requires { F.IsAlwaysCallable read }
-{
-    let (place, bytes) = read::number(payload)?;
-    let bytes = read::within(bytes)?;
-    line.put(Shown(read(bytes, place)));
-    Ok(())
-}
-
-// Kind 3: an unsigned varint.
-pub fn read_unsigned(line: &mut Line, payload: &[u8]) -> Result<(), Unanswered> {
-    read(line, payload, varint::read_uvarint)
-}
-
-// Kind 4: a signed varint.
-pub fn read_signed(line: &mut Line, payload: &[u8]) -> Result<(), Unanswered> {
-    read(line, payload, varint::read_varint)
-}
+use varint::ShortOutput;
 
 // A number of eight bytes, written by `write` into an output of so many bytes AA: `wrote COUNT BYTES` or `refused 27 BYTES`.
 fn write<F: FnOnce([u8; 8], &mut [u8]) -> Result<usize, ShortOutput>>(
