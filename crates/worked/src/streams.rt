@@ -27,12 +27,14 @@ fn next(rt: &impl Print, state: &mut State, buf: &[u8]) -> io::Result<()> {
     print!(rt; "next : ")?;
     let next = state.next(buf);
     match next.answer {
-        Ok(Found::Record {
-            place,
-            length,
-            offset,
-            mark,
-        }) => {
+        Ok(
+            Found::Record {
+                place,
+                length,
+                offset,
+                mark,
+            },
+        ) => {
             let bytes = Hex(reader::record(buf, place, length));
             let mark = Shown(mark);
             print!(rt; "record at {place} length {length} offset {offset} {mark}: {bytes}")
