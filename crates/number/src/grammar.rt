@@ -1,62 +1,41 @@
-// The grammar of number text, by place: each function answers the place behind a part of it, and 0 where a part that may be missing is
-// not there. specs/Grammar.antt decides, and specs/Places.antt says how a place stands for what is left behind it.
-ghost use Rattle.std.specs.Prelude.{◌≡◌, ◌<◌, drop};
+// The grammar of number text, by place: each function answers the place behind a part of it, and `None` where a part that may be missing
+// is not there. specs/Grammar.antt decides, and specs/Places.antt says how a place stands for what is left behind it.
+ghost use Rattle.std.specs.Prelude.{◌≡◌, ◌≤◌, drop, length};
 ghost use Rattle.token.specs.Digits.{is_digit};
 ghost use Rattle.number.specs.Bytes.{is_minus, is_sign, is_exponent, is_pointed, is_text, starts, any};
 ghost use Rattle.number.specs.Grammar.{past, after_sign, mantissa_left, exponent_left, onward, is_double};
 ghost use Rattle.number.specs.Places.{Leaves, MayLeave};
 
-// `0` to `9`.
-pub(crate) fn is_digit(b: u8) -> bool
-    ensures { result ≡ is_digit b }
-{
-    if b < b'0' {
-        return false;
-    }
-    b <= b'9'
-}
-
 // `+` or `-`.
-fn is_sign(b: u8) -> bool
+#[tactic(auto, unfolding(crate::specs::Bytes::is_sign))]
+pub(crate) fn is_sign(b: u8) -> bool
     ensures { result ≡ is_sign b }
 {
-    if b == b'+' {
-        return true;
-    }
-    b == b'-'
+    matches!(b, b'+' | b'-')
 }
 
 // `e` or `E`.
+#[tactic(auto, unfolding(crate::specs::Bytes::is_exponent))]
 fn is_exponent(b: u8) -> bool
     ensures { result ≡ is_exponent b }
 {
-    if b == b'e' {
-        return true;
-    }
-    b == b'E'
+    matches!(b, b'e' | b'E')
 }
 
 // `.`, `e` or `E`.
+#[tactic(auto, unfolding(crate::specs::Bytes::is_pointed))]
 pub(crate) fn is_pointed(b: u8) -> bool
     ensures { result ≡ is_pointed b }
 {
-    if b == b'.' {
-        return true;
-    }
-    is_exponent(b)
+    b == b'.' || is_exponent(b)
 }
 
 // A byte that number text runs over.
+#[tactic(auto, unfolding(crate::specs::Bytes::is_text, token::specs::Digits::is_digit))]
 pub(crate) fn is_text(b: u8) -> bool
     ensures { result ≡ is_text b }
 {
-    if is_digit(b) {
-        return true;
-    }
-    if is_sign(b) {
-        return true;
-    }
-    is_pointed(b)
+    b.is_ascii_digit() || is_sign(b) || is_pointed(b)
 }
 
 // The place behind the digits from `at` on.
@@ -68,78 +47,57 @@ pub(crate) fn digits_end(s: &[u8], at: usize) -> usize
 
 // The place behind the number text from `at` on.
 pub(crate) fn text_end(s: &[u8], at: usize) -> usize
+    requires { at ≤ length s.now }
     ensures { Leaves s.now at (past is_text (drop at s.now)) result }
 {
-    let mut p = at;
-    while p < s.len() {
-        if !is_text(s[p]) {
-            return p;
-        }
-        p += 1;
-    }
-    p
+    let rest = &s[at..];
+    at + rest.iter().position(|&b| !is_text(b)).unwrap_or(rest.len())
 }
 
 // The place behind an optional sign.
 pub(crate) fn sign_end(s: &[u8], at: usize) -> usize
     ensures { Leaves s.now at (after_sign (drop at s.now)) result }
 {
-    if at < s.len() {
-        if is_sign(s[at]) {
-            return at + 1;
-        }
+    match s.get(at) {
+        Some(&b) if is_sign(b) => at + 1,
+        _ => at,
     }
-    at
 }
 
-// The place behind digits with at most one point; 0 where there is no digit. `b` is the place behind the digits from `a` on.
-fn mantissa_end(s: &[u8], a: usize, b: usize) -> usize
+// The place behind digits with at most one point, where there is a digit. `b` is the place behind the digits from `a` on.
+fn mantissa_end(s: &[u8], a: usize, b: usize) -> Option<usize>
     requires { Leaves s.now a (past is_digit (drop a s.now)) b }
     ensures { MayLeave s.now a (mantissa_left (drop a s.now)) result }
 {
-    if b < s.len() {
-        if s[b] == b'.' {
+    match s.get(b) {
+        Some(b'.') => {
             let d = digits_end(s, b + 1);
-            if d == a + 1 {
-                return 0;
-            }
-            return d;
+            (d != a + 1).then_some(d)
         }
+        _ => (a < b).then_some(b),
     }
-    if a < b {
-        return b;
-    }
-    0
 }
 
-// The place behind an optional exponent; 0 where one has no digit.
-fn exponent_end(s: &[u8], at: usize) -> usize
-    requires { 0 < at }
+// The place behind an optional exponent, unless one has no digit.
+fn exponent_end(s: &[u8], at: usize) -> Option<usize>
     ensures { MayLeave s.now at (exponent_left (drop at s.now)) result }
 {
-    if at < s.len() {
-        if is_exponent(s[at]) {
+    match s.get(at) {
+        Some(&b) if is_exponent(b) => {
             let a = sign_end(s, at + 1);
             let b = digits_end(s, a);
-            if b == a {
-                return 0;
-            }
-            return b;
+            (a < b).then_some(b)
         }
+        _ => Some(at),
     }
-    at
 }
 
-// The place behind a double whose sign ends at `a` and whose first digits end at `b`; 0 where none stands there.
-pub(crate) fn double_end(s: &[u8], a: usize, b: usize) -> usize
+// The place behind a double whose sign ends at `a` and whose first digits end at `b`, where one stands there.
+pub(crate) fn double_end(s: &[u8], a: usize, b: usize) -> Option<usize>
     requires { Leaves s.now a (past is_digit (drop a s.now)) b }
     ensures { MayLeave s.now a (onward exponent_left (mantissa_left (drop a s.now))) result }
 {
-    let m = mantissa_end(s, a, b);
-    if m == 0 {
-        return 0;
-    }
-    exponent_end(s, m)
+    exponent_end(s, mantissa_end(s, a, b)?)
 }
 
 // Whether text is a double's, whole.
@@ -147,34 +105,19 @@ pub(crate) fn double_ok(t: &[u8]) -> bool
     ensures { result ≡ is_double t.now }
 {
     let a = sign_end(t, 0);
-    let b = digits_end(t, a);
-    let q = double_end(t, a, b);
-    if q == 0 {
-        return false;
-    }
-    q == t.len()
+    double_end(t, a, digits_end(t, a)) == Some(t.len())
 }
 
 // Whether a point or an exponent stands in text.
 pub(crate) fn has_point(t: &[u8]) -> bool
     ensures { result ≡ any is_pointed t.now }
 {
-    let mut i = 0;
-    while i < t.len() {
-        if is_pointed(t[i]) {
-            return true;
-        }
-        i += 1;
-    }
-    false
+    t.iter().any(|&b| is_pointed(b))
 }
 
 // Whether text starts with `-`.
 pub(crate) fn has_minus(t: &[u8]) -> bool
     ensures { result ≡ starts is_minus t.now }
 {
-    if 0 < t.len() {
-        return t[0] == b'-';
-    }
-    false
+    t.starts_with(b"-")
 }

@@ -5,140 +5,100 @@
 
 mod grammar;
 
-ghost use Rattle.std.specs.Prelude.{◌≡◌, true, ◌^◌, ◌<◌, ◌≤◌, drop, pos, neg_ℤ};
+ghost use Rattle.std.specs.Prelude.{◌≡◌, ◌-◌, ◌^◌, IsTrue, IfSome};
 ghost use Rattle.token.specs.Meaning.{read_meaning};
 ghost use Rattle.token.specs.Ends.{end_of};
 ghost use Rattle.number.specs.Number.{uint64_text, double_text, int64_text, number_at};
-ghost use Rattle.number.specs.Places.{Whole, up_to, AtMost};
+ghost use Rattle.number.specs.Places.{Whole, up_to, uint64_in, int64_in};
 
 use grammar::{
-    digits_end, double_end, double_ok, has_minus, has_point, is_digit, is_pointed, is_text,
+    digits_end, double_end, double_ok, has_minus, has_point, is_pointed, is_sign, is_text,
     sign_end, text_end,
 };
-use refusal::Refusal;
-use token::{Read, Token};
+use refusal::{Unread, Why};
+use token::{Placed, Read, Token};
 
-// The number that digits write.
-#[derive(Clone, Copy)]
-enum Magnitude {
-    Value(u64),
-    // No digit, a byte that is none, or a number above the limit.
-    Bad,
+// The number that digits write, where there is one and it fits.
+fn read_decimal(digits: &[u8]) -> Option<u64>
+    ensures { result ≡ up_to (2 ^ 64 - 1) digits.now }
+{
+    if digits.is_empty() {
+        return None;
+    }
+    let mut value: u64 = 0;
+    for &b in digits {
+        if !b.is_ascii_digit() {
+            return None;
+        }
+        value = value.checked_mul(10)?.checked_add(u64::from(b - b'0'))?;
+    }
+    Some(value)
 }
 
-// The digits of `t` from `at` on, which write no more than `limit`.
-fn read_decimal(t: &[u8], at: usize, limit: u64) -> Magnitude
-    ensures { (result ≡ up_to limit (drop at t.now)) × AtMost result limit }
+// The number that text is, as a uint64.
+fn read_unsigned(t: &[u8]) -> Option<u64>
+    ensures { result ≡ uint64_in t.now }
 {
-    if t.len() <= at {
-        return Magnitude::Bad;
+    if has_minus(t) {
+        return None;
     }
-    let mut i = at;
-    let mut v: u64 = 0;
-    while i < t.len() {
-        let b = t[i];
-        if !is_digit(b) {
-            return Magnitude::Bad;
-        }
-        let d = (b - b'0') as u64;
-        if limit / 10 < v {
-            return Magnitude::Bad;
-        }
-        let w = v * 10;
-        if limit - w < d {
-            return Magnitude::Bad;
-        }
-        v = w + d;
-        i += 1;
-    }
-    Magnitude::Value(v)
+    read_decimal(&t[sign_end(t, 0)..])
 }
 
-fn positive(v: u64) -> i64
-    requires { v < 2 ^ 63 }
-    ensures { result ≡ pos v }
+// The number that text is, as an int64.
+fn read_signed(t: &[u8]) -> Option<i64>
+    ensures { result ≡ int64_in t.now }
 {
-    v as i64
-}
-
-fn negative(v: u64) -> i64
-    requires { v ≤ 2 ^ 63 }
-    ensures { result ≡ neg_ℤ (pos v) }
-{
-    if v == 0 {
-        return 0;
+    let magnitude = read_decimal(&t[sign_end(t, 0)..])?;
+    if has_minus(t) {
+        return 0_i64.checked_sub_unsigned(magnitude);
     }
-    let x = (v - 1) as i64;
-    -1 - x
+    i64::try_from(magnitude).ok()
 }
 
 // The token of text that has `u` behind it.
 fn uint_token(t: &[u8], at: usize, next: usize) -> Read
     ensures { read_meaning result ≡ uint64_text at next t.now }
 {
-    if has_minus(t) {
-        return Read::Refused {
-            refusal: Refusal::BadUint64 { place: at },
-        };
-    }
-    match read_decimal(t, sign_end(t, 0), 0xffff_ffff_ffff_ffff) {
-        Magnitude::Value(v) => Read::Token {
-            token: Token::Uint64(v),
-            first: at,
-            next,
-        },
-        Magnitude::Bad => Read::Refused {
-            refusal: Refusal::BadUint64 { place: at },
-        },
-    }
+    let Some(value) = read_unsigned(t) else {
+        return Err(Unread::Refused(Why::BadUint64.at(at)));
+    };
+    Ok(Placed {
+        token: Token::Uint64(value),
+        first: at,
+        next,
+    })
 }
 
 // The token of text with a point or an exponent in it.
 fn double_token(t: &[u8], at: usize, next: usize) -> Read
     ensures { read_meaning result ≡ double_text at next t.now }
 {
-    if double_ok(t) {
-        return Read::Token {
-            token: Token::Decimal {
-                start: at,
-                len: t.len(),
-            },
-            first: at,
-            next,
-        };
+    if !double_ok(t) {
+        return Err(Unread::Refused(Why::BadDouble.at(at)));
     }
-    Read::Refused {
-        refusal: Refusal::BadDouble { place: at },
-    }
+    Ok(Placed {
+        token: Token::Decimal {
+            start: at,
+            len: t.len(),
+        },
+        first: at,
+        next,
+    })
 }
 
 // The token of any other text.
 fn int_token(t: &[u8], at: usize, next: usize) -> Read
     ensures { read_meaning result ≡ int64_text at next t.now }
 {
-    let a = sign_end(t, 0);
-    if has_minus(t) {
-        return match read_decimal(t, a, 0x8000_0000_0000_0000) {
-            Magnitude::Value(v) => Read::Token {
-                token: Token::Int64(negative(v)),
-                first: at,
-                next,
-            },
-            Magnitude::Bad => Read::Refused {
-                refusal: Refusal::BadInt64 { place: at },
-            },
-        };
-    }
-    match read_decimal(t, a, 0x7fff_ffff_ffff_ffff) {
-        Magnitude::Value(v) => Read::Token {
-            token: Token::Int64(positive(v)),
-            first: at,
-            next,
-        },
-        Magnitude::Bad => Read::Refused {
-            refusal: Refusal::BadInt64 { place: at },
-        },
-    }
+    let Some(value) = read_signed(t) else {
+        return Err(Unread::Refused(Why::BadInt64.at(at)));
+    };
+    Ok(Placed {
+        token: Token::Int64(value),
+        first: at,
+        next,
+    })
 }
 
 // The number token at a place, whatever byte stands there: the token, that the bytes end there, or why the text is no number.
@@ -146,88 +106,54 @@ pub fn number_token(input: &[u8], at: usize) -> Read
     ensures { read_meaning result ≡ number_at input.now at }
 {
     if input.len() < at {
-        return Read::Beyond;
+        return Err(Unread::Beyond);
     }
     if input.len() == at {
-        return Read::Incomplete;
+        return Err(Unread::Incomplete);
     }
     let end = text_end(input, at);
-    if end < input.len() {
-        if input[end] == b'u' {
-            return uint_token(&input[at..end], at, end + 1);
-        }
+    let t = &input[at..end];
+    match input.get(end) {
+        Some(b'u') => uint_token(t, at, end + 1),
+        _ if has_point(t) => double_token(t, at, end),
+        _ => int_token(t, at, end),
     }
-    if has_point(&input[at..end]) {
-        return double_token(&input[at..end], at, end);
-    }
-    int_token(&input[at..end], at, end)
 }
 
-// The end that the full reader finds.
+// Whether a double that ends at `q` is whole: neither number text nor `u` goes on there.
+fn stops(s: &[u8], q: usize) -> bool
+    ensures { IsTrue result → Whole s.now q }
+{
+    match s.get(q) {
+        Some(&b) => b != b'u' && !is_text(b),
+        None => true,
+    }
+}
+
+// The place after the number token at a place, where one walk settles it: few digits, or a double, with no number text behind.
+fn fast_end(input: &[u8], at: usize) -> Option<usize>
+    ensures { IfSome result (λ q. q ≡ end_of (number_at input.now at)) }
+{
+    let a = sign_end(input, at);
+    let b = digits_end(input, a);
+    match input.get(b) {
+        Some(b'u') => ((1..=19).contains(&(b - a)) && input[at] != b'-').then_some(b + 1),
+        Some(&k) if is_pointed(k) => double_end(input, a, b).filter(|q| stops(input, *q)),
+        Some(&k) if is_sign(k) => None,
+        _ => (1..=18).contains(&(b - a)).then_some(b),
+    }
+}
+
+// The end that the full reader finds; 0 where there is none.
 fn read_end(input: &[u8], at: usize) -> usize
     ensures { result ≡ end_of (number_at input.now at) }
 {
-    match number_token(input, at) {
-        Read::Token {
-            token: _,
-            first: _,
-            next,
-        } => next,
-        Read::Incomplete => 0,
-        Read::Refused { refusal: _ } => 0,
-        Read::Beyond => 0,
-    }
-}
-
-// Whether a double ends at `q`: one was there, and neither number text nor `u` goes on behind it.
-fn stops(s: &[u8], q: usize) -> bool
-    ensures { result ≡ true → Whole s.now q }
-{
-    if q == 0 {
-        return false;
-    }
-    if q < s.len() {
-        if s[q] == b'u' {
-            return false;
-        }
-        return !is_text(s[q]);
-    }
-    true
+    number_token(input, at).map_or(0, |placed| placed.next)
 }
 
 // The place after the number token at a place; 0 where `number_token` gives none.
 pub fn number_end(input: &[u8], at: usize) -> usize
     ensures { result ≡ end_of (number_at input.now at) }
 {
-    let a = sign_end(input, at);
-    let b = digits_end(input, a);
-    if b < input.len() {
-        let k = input[b];
-        if k == b'u' {
-            if a < b {
-                if b - a <= 19 {
-                    if input[at] != b'-' {
-                        return b + 1;
-                    }
-                }
-            }
-            return read_end(input, at);
-        }
-        if is_pointed(k) {
-            let q = double_end(input, a, b);
-            if stops(input, q) {
-                return q;
-            }
-            return read_end(input, at);
-        }
-        if is_text(k) {
-            return read_end(input, at);
-        }
-    }
-    if a < b {
-        if b - a <= 18 {
-            return b;
-        }
-    }
-    read_end(input, at)
+    fast_end(input, at).unwrap_or_else(|| read_end(input, at))
 }
