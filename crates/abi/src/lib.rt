@@ -7,7 +7,7 @@ ghost use Rattle.refusal.specs.Numbers.{bad_call};
 ghost use Rattle.scan.specs.Meaning.{scan_meaning};
 ghost use Rattle.abi.specs.Call.{call_number, signed, Fitting};
 
-use refusal::Format;
+use refusal::{Format, Unwhole};
 use scan::Scan;
 
 // The format numbers.
@@ -43,9 +43,9 @@ fn number(answer: Scan) -> i64
     ensures { result ≡ signed (scan_meaning answer) }
 {
     match answer {
-        Scan::Complete { len } => len as i64,
-        Scan::Incomplete => 0,
-        Scan::Refused { refusal } => minus(refusal.number()),
+        Ok(len) => len as i64,
+        Err(Unwhole::Incomplete) => 0,
+        Err(Unwhole::Refused(refusal)) => minus(refusal.number()),
     }
 }
 

@@ -1,116 +1,73 @@
-// Numbers of a case, and payloads that are passed over.
-ghost use Rattle.std.specs.Prelude.{◌≤◌, length};
-
+// The input, and what a payload is made of.
 use std::io::{Read, Stdin};
+use std::{fmt, io};
 
-// A byte as a wide number.
-fn wide(x: u8) -> u64
-    ensures { result ≤ 255 }
-{
-    x as u64
+// The most bytes that a case asks of.
+pub const MOST_BYTES: usize = 65536;
+
+// Why a case has no answer. The word for it stands in the answer's place.
+#[derive(Clone, Copy)]
+pub enum Unanswered {
+    // The payload is not of its form, or there is no such kind.
+    BadCase,
+    // More bytes than are read.
+    TooLong,
+    // The input ended inside the case.
+    CutShort,
 }
 
-// The byte at a place, or 0 where there is none.
-fn byte_at(s: &[u8], at: usize) -> u64
-    ensures { result ≤ 255 }
-{
-    if at < s.len() {
-        return wide(s[at]);
-    }
-    0
-}
-
-// Four bytes from a place on as one number, lowest first.
-pub fn little4(s: &[u8], at: usize) -> usize
-    requires { at ≤ 1000 }
-    ensures { result ≤ 4294967295 }
-{
-    let a = byte_at(s, at);
-    let b = byte_at(s, at + 1);
-    let c = byte_at(s, at + 2);
-    let d = byte_at(s, at + 3);
-    (a + b * 0x100 + c * 0x1_0000 + d * 0x100_0000) as usize
-}
-
-// Two bytes from a place on as one number, lowest first.
-pub fn little2(s: &[u8], at: usize) -> usize
-    requires { at ≤ 1000 }
-    ensures { result ≤ 65535 }
-{
-    let a = byte_at(s, at);
-    let b = byte_at(s, at + 1);
-    (a + b * 0x100) as usize
-}
-
-// Eight bytes from a place on as one number, lowest first.
-pub fn little8(s: &[u8], at: usize) -> u64
-    requires { at ≤ 900 }
-{
-    let low = little4(s, at);
-    let high = little4(s, at + 4);
-    (high as u64) * 0x1_0000_0000 + (low as u64)
-}
-
-// A byte as a length.
-pub fn size(x: u8) -> usize {
-    x as usize
-}
-
-// The smaller of two lengths.
-fn least(a: u64, b: usize) -> usize
-    ensures { (result ≤ a) × (result ≤ b) }
-{
-    if a < b as u64 {
-        return a as usize;
-    }
-    b
-}
-
-// One reading of the input: how many bytes it put at the front, none at the input's end and where it cannot be read.
-fn some(mut stdin: Stdin, bytes: &mut [u8]) -> usize
-    ensures { result ≤ length bytes.new }
-{
-    match stdin.read(bytes) {
-        Ok(count) => count,
-        Err(_) => 0,
-    }
-}
-
-// Reads until the bytes are full or no more come, and answers how many did.
-pub fn full(stdin: Stdin, bytes: &mut [u8]) -> usize
-    ensures { result ≤ length bytes.new }
-{
-    let mut done = 0;
-    while done < bytes.len() {
-        let count = some(stdin, &mut bytes[done..]);
-        if count == 0 {
-            return done;
+impl fmt::Display for Unanswered {
+    fn fmt<W: fmt::Write>(&self, f: &mut fmt::Formatter<W>) -> fmt::Result {
+        match self {
+            Unanswered::BadCase => write!(f, "bad case"),
+            Unanswered::TooLong => write!(f, "too long"),
+            Unanswered::CutShort => write!(f, "cut short"),
         }
-        done += count;
     }
-    done
 }
 
-// Reads so many bytes at the front of a chunk, and answers whether they were all there.
-pub fn fill(stdin: Stdin, chunk: &mut [u8], n: usize) -> bool {
-    if chunk.len() < n {
-        return false;
-    }
-    full(stdin, &mut chunk[..n]) == n
+// Fills the bytes from the input.
+pub fn fill(mut stdin: Stdin, bytes: &mut [u8]) -> Result<(), Unanswered> {
+    stdin.read_exact(bytes).map_err(|_| Unanswered::CutShort)
 }
 
-// Reads so many bytes and drops them; false where the input ends before.
-pub fn skip(stdin: Stdin, rest: u64, chunk: &mut [u8]) -> bool {
-    let mut left = rest;
-    while 0 < left {
-        let n = least(left, chunk.len());
-        if n == 0 {
-            return false;
-        }
-        if !fill(stdin, chunk, n) {
-            return false;
-        }
-        left -= n as u64;
+// The next bytes of the input.
+pub fn next<const N: usize>(stdin: Stdin) -> Result<[u8; N], Unanswered> {
+    let mut bytes = [0u8; N];
+    fill(stdin, &mut bytes)?;
+    Ok(bytes)
+}
+
+// The kind of the next case and the length of its payload; none at the input's end.
+pub fn head(mut stdin: Stdin) -> Result<Option<(u8, usize)>, Unanswered> {
+    let mut head = [0u8; 5];
+    match stdin.read(&mut head) {
+        Ok(0) | Err(_) => return Ok(None),
+        Ok(count) => fill(stdin, &mut head[count..])?,
     }
-    true
+    let [kind, a, b, c, d] = head;
+    Ok(Some((kind, u32::from_le_bytes([a, b, c, d]) as usize)))
+}
+
+// Passes over so many bytes of the input.
+pub fn skip(stdin: Stdin, size: u64) -> Result<(), Unanswered> {
+    match io::copy(&mut stdin.take(size), &mut io::sink()) {
+        Ok(count) if count == size => Ok(()),
+        _ => Err(Unanswered::CutShort),
+    }
+}
+
+// Bytes that are not too long.
+pub fn within(bytes: &[u8]) -> Result<&[u8], Unanswered> {
+    if bytes.len() <= MOST_BYTES {
+        Ok(bytes)
+    } else {
+        Err(Unanswered::TooLong)
+    }
+}
+
+// The number that stands in four bytes at the front of a payload, and what follows it.
+pub fn number(payload: &[u8]) -> Result<(usize, &[u8]), Unanswered> {
+    let (number, rest) = payload.split_first_chunk().ok_or(Unanswered::BadCase)?;
+    Ok((u32::from_le_bytes(*number) as usize, rest))
 }

@@ -1,131 +1,58 @@
 // Kinds 3 to 6: varints, read and written.
-ghost use Rattle.std.specs.Prelude.{◌≡◌, length};
-
-use crate::{line, read};
+use crate::line::Line;
+use crate::read;
+use crate::read::Unanswered;
+use crate::shown::Shown;
 use refusal::Cause;
-use std::io::Stdout;
-use varint::{Uvarint, Varint, Written};
-
-// `value V NEXT` of a number that is not below nought.
-fn put_value(out: &mut [u8], n: usize, value: u64, next: usize) -> usize {
-    let a = output::put_word(out, n, b"value ");
-    let b = output::put_decimal(out, a, value);
-    let c = output::put_word(out, b, b" ");
-    output::put_decimal(out, c, next as u64)
-}
-
-// The same of a signed number.
-fn put_signed_value(out: &mut [u8], n: usize, value: i64, next: usize) -> usize {
-    let a = output::put_word(out, n, b"value ");
-    let b = line::put_signed(out, a, value);
-    let c = output::put_word(out, b, b" ");
-    output::put_decimal(out, c, next as u64)
-}
-
-// What reading an unsigned varint answered.
-fn put_unsigned_answer(out: &mut [u8], n: usize, answer: Uvarint) -> usize {
-    match answer {
-        Uvarint::Value { value, next } => put_value(out, n, value, next),
-        Uvarint::More => output::put_word(out, n, b"more"),
-        Uvarint::Refused { refusal } => line::put_refusal(out, n, refusal),
-        Uvarint::Beyond => line::put_cause(out, n, Cause::BeyondSlice),
-    }
-}
-
-// What reading a signed varint answered.
-fn put_signed_answer(out: &mut [u8], n: usize, answer: Varint) -> usize {
-    match answer {
-        Varint::Value { value, next } => put_signed_value(out, n, value, next),
-        Varint::More => output::put_word(out, n, b"more"),
-        Varint::Refused { refusal } => line::put_refusal(out, n, refusal),
-        Varint::Beyond => line::put_cause(out, n, Cause::BeyondSlice),
-    }
-}
+use varint::Written;
 
 // Kind 3: `value V NEXT`, `more`, `refused NO PLACE` or `refused 26`.
-pub fn read_unsigned(payload: &[u8], out: &mut [u8], n: usize) -> usize {
-    if payload.len() < 4 {
-        return output::put_word(out, n, b"bad case\n");
-    }
-    if 65540 < payload.len() {
-        return output::put_word(out, n, b"too long\n");
-    }
-    let found = varint::read_uvarint(&payload[4..], read::little4(payload, 0));
-    let a = put_unsigned_answer(out, n, found);
-    line::put_newline(out, a)
+pub fn read_unsigned(line: &mut Line, payload: &[u8]) -> Result<(), Unanswered> {
+    let (place, bytes) = read::number(payload)?;
+    let bytes = read::within(bytes)?;
+    line.put(Shown(varint::read_uvarint(bytes, place)));
+    Ok(())
 }
 
 // Kind 4: the same of a signed varint.
-pub fn read_signed(payload: &[u8], out: &mut [u8], n: usize) -> usize {
-    if payload.len() < 4 {
-        return output::put_word(out, n, b"bad case\n");
-    }
-    if 65540 < payload.len() {
-        return output::put_word(out, n, b"too long\n");
-    }
-    let found = varint::read_varint(&payload[4..], read::little4(payload, 0));
-    let a = put_signed_answer(out, n, found);
-    line::put_newline(out, a)
+pub fn read_signed(line: &mut Line, payload: &[u8]) -> Result<(), Unanswered> {
+    let (place, bytes) = read::number(payload)?;
+    let bytes = read::within(bytes)?;
+    line.put(Shown(varint::read_varint(bytes, place)));
+    Ok(())
 }
 
-// `wrote COUNT BYTES` or `refused 27 BYTES`.
-fn put_written(stdout: Stdout, written: Written, area: &[u8], out: &mut [u8], n: usize) -> usize {
-    match written {
-        Written::Bytes { count } => {
-            let a = output::put_word(out, n, b"wrote ");
-            let b = output::put_decimal(out, a, count as u64);
-            let c = output::put_word(out, b, b" ");
-            let d = line::put_bytes(stdout, out, c, area);
-            line::put_newline(out, d)
-        }
-        Written::Short => {
-            let a = line::put_cause(out, n, Cause::ShortOutput);
-            let b = output::put_word(out, a, b" ");
-            let c = line::put_bytes(stdout, out, b, area);
-            line::put_newline(out, c)
-        }
-    }
-}
-
-// The unsigned number of a case, into the first bytes of an area.
-fn unsigned_into(stdout: Stdout, payload: &[u8], area: &mut [u8], out: &mut [u8], n: usize) -> usize
-    requires { length payload.now ≡ 9 }
+// A number of eight bytes, written by `write` into an output of so many bytes AA: `wrote COUNT BYTES` or `refused 27 BYTES`.
+fn write<F: FnOnce([u8; 8], &mut [u8]) -> Written>(
+    line: &mut Line,
+    payload: &[u8],
+    write: F,
+) -> Result<(), Unanswered>
+    requires { F.IsAlwaysCallable write }
 {
-    let room = read::size(payload[8]);
-    if area.len() < room {
-        return n;
-    }
-    let written = varint::write_uvarint(read::little8(payload, 0), &mut area[..room]);
-    put_written(stdout, written, &area[..room], out, n)
-}
-
-// Kind 5: an unsigned number into an output of so many bytes AA.
-pub fn write_unsigned(stdout: Stdout, payload: &[u8], out: &mut [u8], n: usize) -> usize {
-    if payload.len() != 9 {
-        return output::put_word(out, n, b"bad case\n");
-    }
+    let Some((value, &[room])) = payload.split_first_chunk() else {
+        return Err(Unanswered::BadCase);
+    };
     let mut area = [0xAAu8; 255];
-    unsigned_into(stdout, payload, &mut area, out, n)
+    let out = &mut area[..usize::from(room)];
+    match write(*value, out) {
+        Written::Bytes { count } => line.put(format_args!("wrote {count} ")),
+        Written::Short => line.put(format_args!("{} ", Shown(Cause::ShortOutput))),
+    }
+    line.put_bytes(out);
+    Ok(())
 }
 
-// The same of a signed number.
-fn signed_into(stdout: Stdout, payload: &[u8], area: &mut [u8], out: &mut [u8], n: usize) -> usize
-    requires { length payload.now ≡ 9 }
-{
-    let room = read::size(payload[8]);
-    if area.len() < room {
-        return n;
-    }
-    let value = zigzag::to_i64(read::little8(payload, 0));
-    let written = varint::write_varint(value, &mut area[..room]);
-    put_written(stdout, written, &area[..room], out, n)
+// Kind 5: an unsigned number.
+pub fn write_unsigned(line: &mut Line, payload: &[u8]) -> Result<(), Unanswered> {
+    write(line, payload, |value, out| {
+        varint::write_uvarint(u64::from_le_bytes(value), out)
+    })
 }
 
-// Kind 6: a signed number into an output of so many bytes AA.
-pub fn write_signed(stdout: Stdout, payload: &[u8], out: &mut [u8], n: usize) -> usize {
-    if payload.len() != 9 {
-        return output::put_word(out, n, b"bad case\n");
-    }
-    let mut area = [0xAAu8; 255];
-    signed_into(stdout, payload, &mut area, out, n)
+// Kind 6: a signed number, in two's complement.
+pub fn write_signed(line: &mut Line, payload: &[u8]) -> Result<(), Unanswered> {
+    write(line, payload, |value, out| {
+        varint::write_varint(i64::from_le_bytes(value), out)
+    })
 }

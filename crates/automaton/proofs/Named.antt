@@ -9,7 +9,7 @@ use lib.Dec.{ltb}
 use lib.ListN.{length}
 use Rattle.refusal.specs.Numbers.{too_deep}
 use Rattle.refusal.specs.Paper.{Paper, refused, pick}
-use Rattle.refusal.specs.Meaning.{number_of, place_of, refusal_meaning, named_by}
+use Rattle.refusal.specs.Meaning.{why_of, number_of, place_of, refusal_meaning, named_by}
 use Rattle.token.specs.declared.Kind.{Kind}
 use Rattle.token.specs.declared.Kind.TheVariants.{Text, Scalar, OpenList, CloseList, OpenMap, CloseMap, OpenAttributes, CloseAttributes, Equals, Semicolon}
 use Rattle.automaton.specs.Limit.{most_open}
@@ -19,7 +19,7 @@ use Rattle.automaton.specs.Step.{Block, list, map, attributes, Due, value, objec
 Named : Step → Type 0
 Named (go K d) = Unit {0}
 Named finished = Unit {0}
-Named (wrong w) = (0 < w) × (w ≤ too_deep)
+Named (wrong w) = (0 < w) × (w < too_deep)
 Named deep = Unit {0}
 
 after_named : (K : List Block) → Named (after K)
@@ -139,11 +139,16 @@ step_named equals K k = equals_named K k
 
 pub wrong_named : (d : Due) (K : List Block) (k : Kind) (w : ℕ) → step d K k ≡ wrong w → (0 < w) × (w ≤ too_deep)
 unfolding Named
-wrong_named d K k w e = subst Named e (step_named d K k)
+wrong_named d K k w e = let n : (0 < w) × (w < too_deep) = subst Named e (step_named d K k) in (n.0, omega arith)
+
+-- and not by that of a block too many
+pub wrong_shallow : (d : Due) (K : List Block) (k : Kind) (w : ℕ) → step d K k ≡ wrong w → w < too_deep
+unfolding Named
+wrong_shallow d K k w e = (subst Named e (step_named d K k)).1
 
 -- the numbers up to the last that a refusal has, each with its name
 named : (n p : ℕ) → 0 < n → n ≤ too_deep → (number_of (named_by n p) ≡ n) × (place_of (named_by n p) ≡ p)
-unfolding named_by
+unfolding why_of
 named zero p h g = absurd (omega arith)
 named (suc zero) p h g = (refl, refl)
 named (suc (suc zero)) p h g = (refl, refl)

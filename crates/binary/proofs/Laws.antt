@@ -1,5 +1,5 @@
 -- Laws of `binary_from`: which answer follows from what was read, and what a caller may rely on. Assumes nothing.
-use mathlib.Core.Path.{◌≡◌, ap, ◌∙◌}
+use mathlib.Core.Path.{◌≡◌, sym, ap, ◌∙◌}
 use mathlib.Core.List.{List, [], ◌∷◌}
 use Prim.Native.Nat.{ℕ, ◌+◌, ◌-◌, ◌/◌, ◌%◌, ◌≤◌, ◌<◌}
 use native.Mathlib.Omega.{arith}
@@ -11,10 +11,15 @@ use Rattle.varint.specs.Varint.{uvarint_at}
 use Rattle.zigzag.specs.Zigzag.{signed}
 use Rattle.varint.specs.Signed.{signed_answer, varint_at}
 use Rattle.zigzag.proofs.Laws.{even, odd}
-use Rattle.varint.proofs.Round.{never_beyond}
 use Rattle.token.specs.declared.Token.TheVariants.{String}
 use Rattle.token.specs.Marks.{mark_of, of_mark}
-use Rattle.binary.specs.Binary.{of_size, of_length, double_at, marked, binary_from, binary_at}
+use Rattle.binary.specs.Binary.{behind, of_size, of_length, double_at, marked, binary_from, binary_at}
+
+-- a number behind a marker is that of the varint there
+pub behind_gives : {A : Type 0} (at : ℕ) (p : Paper (Got A)) (g : Got A) → gives g ≡ behind at p → p ≡ gives g
+behind_gives at (gives h) g e = sym e
+behind_gives at more g e = absurd cc
+behind_gives at (refused n vs) g e = absurd cc
 
 -- ---- from the code's tests to the definition
 
@@ -42,16 +47,6 @@ module _ (s : List ℕ) (at : ℕ) where
   unfolding marked
   unmarked b h₁ h₂ h₃ h₄ h₅ h₆ = rw (ne_eqb b 1 h₁, ne_eqb b 2 h₂, ne_eqb b 3 h₃, ne_eqb b 4 h₄, ne_eqb b 5 h₅, ne_eqb b 6 h₆)
 
-  -- a signed varint within the slice is never beyond it
-  pub no_beyond : (n : ℕ) → at ≤ length s → varint_at s at ≡ refused n [] → ⊥
-  unfolding varint_at
-  no_beyond n h e = never_beyond s at n h (un (uvarint_at s at) e)
-    where
-      un : (p : Paper (Got ℕ)) → signed_answer p ≡ refused n [] → p ≡ refused n []
-      un (gives (got v next)) x = let z : ◌≡◌ {A = ℕ} 0 1 = cc in absurd (omega arith)
-      un more x = let z : ◌≡◌ {A = ℕ} 0 1 = cc in absurd (omega arith)
-      un (refused m vs) x = cc
-
   -- ---- strings, by the unsigned varint of the length
 
   module _ (v n : ℕ) where
@@ -67,15 +62,6 @@ module _ (s : List ℕ) (at : ℕ) where
     pub string_sized : uvarint_at s (at + 1) ≡ gives (got v n) → of_length s at (varint_at s (at + 1)) ≡ of_size s at n (signed v)
     unfolding varint_at
     string_sized e = ap (λ (p : Paper (Got ℕ)). of_length s at (signed_answer p)) e
-
-  -- the other answers of the varint
-  pub string_more : uvarint_at s (at + 1) ≡ more → of_length s at (varint_at s (at + 1)) ≡ more
-  unfolding varint_at
-  string_more e = ap (λ (p : Paper (Got ℕ)). of_length s at (signed_answer p)) e
-
-  pub string_refused : (n : ℕ) (vs : List ℕ) → uvarint_at s (at + 1) ≡ refused n vs → of_length s at (varint_at s (at + 1)) ≡ refused n (at ∷ [])
-  unfolding varint_at
-  string_refused n vs e = ap (λ (p : Paper (Got ℕ)). of_length s at (signed_answer p)) e
 
   -- ---- doubles
 

@@ -12,6 +12,12 @@ use Rattle.token.specs.declared.Token.TheVariants.{String, Int64, Uint64, Double
 use Rattle.token.specs.Marks.{mark_of, of_mark}
 use Rattle.binary.specs.Little.{little8}
 
+-- the varint behind a marker at the place `at`, where its refusals stand
+abbrev pub behind : {A : Type 0} → ℕ → Paper (Got A) → Paper (Got A)
+behind at (gives g) = gives g
+behind at more = more
+behind at (refused n vs) = refused n (at ∷ [])
+
 -- a token that is its marker and a varint: more and the refusals are the varint's, at the token's first byte
 abbrev pub of_varint : {A : Type 0} → ℕ → (A → Token) → Paper (Got A) → Paper (Spot Token)
 of_varint at t (gives (got v next)) = gives (spot (t v) at next)

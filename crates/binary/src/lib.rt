@@ -8,14 +8,15 @@ ghost use Rattle.std.specs.Float.{binary64};
 ghost use Rattle.varint.specs.Varint.{uvarint_at};
 ghost use Rattle.zigzag.specs.Zigzag.{signed};
 ghost use Rattle.varint.specs.Signed.{varint_at};
+ghost use Rattle.varint.specs.Meaning.{uvarint_meaning};
 ghost use Rattle.token.specs.Meaning.{read_meaning};
 ghost use Rattle.token.specs.Strings.{unescaped_meaning, bytes_answer, bytes_written};
-ghost use Rattle.binary.specs.Binary.{of_size, of_length, of_varint, double_at, binary_at};
+ghost use Rattle.binary.specs.Binary.{behind, of_size, of_length, of_varint, double_at, binary_at};
 ghost use Rattle.binary.specs.Strings.{binary_string_at};
 
-use refusal::Refusal;
-use token::{Read, Token, Unescaped};
-use varint::{Uvarint, Varint};
+use refusal::{Unread, Why};
+use token::{Placed, Read, Token, Unescaped};
+use varint::Varint;
 
 // The float of a pattern of 64 bits. A NaN's pattern gives a NaN.
 fn float_of(bits: u64) -> f64
@@ -34,15 +35,25 @@ fn double_token(input: &[u8], at: usize) -> Read
 {
     let p = at + 1;
     if input.len() - p < 8 {
-        return Read::Incomplete;
+        return Err(Unread::Incomplete);
     }
     let bits = word::word_at(input, p);
-    let value = float_of(bits);
-    Read::Token {
-        token: Token::Double { value, bits },
+    Ok(Placed {
+        token: Token::Double {
+            value: float_of(bits),
+            bits,
+        },
         first: at,
         next: at + 9,
-    }
+    })
+}
+
+// The varint behind the marker at `at`. A refusal carries the marker's place.
+fn varint_behind(input: &[u8], at: usize) -> Result<Varint<u64>, Unread>
+    requires { at < length input.now }
+    ensures { uvarint_meaning result ≡ behind at (uvarint_at input.now (at + 1)) }
+{
+    varint::read_uvarint(input, at + 1).map_err(|unread| unread.moved(at))
 }
 
 // An int64, whose marker stands at `at`.
@@ -50,18 +61,12 @@ fn int64_token(input: &[u8], at: usize) -> Read
     requires { at < length input.now }
     ensures { read_meaning result ≡ of_varint at Token.Int64 (varint_at input.now (at + 1)) }
 {
-    match varint::read_varint(input, at + 1) {
-        Varint::Value { value, next } => Read::Token {
-            token: Token::Int64(value),
-            first: at,
-            next,
-        },
-        Varint::More => Read::Incomplete,
-        Varint::Refused { refusal } => Read::Refused {
-            refusal: refusal.moved(at),
-        },
-        Varint::Beyond => Read::Beyond,
-    }
+    let Varint { value, next } = varint_behind(input, at)?;
+    Ok(Placed {
+        token: Token::Int64(zigzag::unzigzag(value)),
+        first: at,
+        next,
+    })
 }
 
 // An uint64, whose marker stands at `at`.
@@ -69,55 +74,33 @@ fn uint64_token(input: &[u8], at: usize) -> Read
     requires { at < length input.now }
     ensures { read_meaning result ≡ of_varint at Token.Uint64 (uvarint_at input.now (at + 1)) }
 {
-    match varint::read_uvarint(input, at + 1) {
-        Uvarint::Value { value, next } => Read::Token {
-            token: Token::Uint64(value),
-            first: at,
-            next,
-        },
-        Uvarint::More => Read::Incomplete,
-        Uvarint::Refused { refusal } => Read::Refused {
-            refusal: refusal.moved(at),
-        },
-        Uvarint::Beyond => Read::Beyond,
-    }
-}
-
-// A string whose marker stands at `at`, and whose zigzag length was read up to `next`. An odd zigzag number is below zero, half of an
-// even one is the length, and the length is compared with the bytes left.
-fn sized_token(input: &[u8], at: usize, value: u64, next: usize) -> Read
-    requires { next ≤ length input.now }
-    ensures { read_meaning result ≡ of_size input.now at next (signed value) }
-{
-    if value % 2 == 1 {
-        return Read::Refused {
-            refusal: Refusal::NegativeLength { place: at },
-        };
-    }
-    let len = (value / 2) as usize;
-    if input.len() - next < len {
-        return Read::Incomplete;
-    }
-    Read::Token {
-        token: Token::String { start: next, len },
+    let Varint { value, next } = varint_behind(input, at)?;
+    Ok(Placed {
+        token: Token::Uint64(value),
         first: at,
-        next: next + len,
-    }
+        next,
+    })
 }
 
-// A string, whose marker stands at `at`: its length is a zigzag varint, and its bytes follow.
+// A string, whose marker stands at `at`: its length is a zigzag varint, and its bytes follow. An odd zigzag number is below zero, half of
+// an even one is the length, and the length is compared with the bytes left.
 fn string_token(input: &[u8], at: usize) -> Read
     requires { at < length input.now }
     ensures { read_meaning result ≡ of_length input.now at (varint_at input.now (at + 1)) }
 {
-    match varint::read_uvarint(input, at + 1) {
-        Uvarint::Value { value, next } => sized_token(input, at, value, next),
-        Uvarint::More => Read::Incomplete,
-        Uvarint::Refused { refusal } => Read::Refused {
-            refusal: refusal.moved(at),
-        },
-        Uvarint::Beyond => Read::Beyond,
+    let Varint { value, next } = varint_behind(input, at)?;
+    if value % 2 == 1 {
+        return Err(Unread::Refused(Why::NegativeLength.at(at)));
     }
+    let len = (value / 2) as usize;
+    if input.len() - next < len {
+        return Err(Unread::Incomplete);
+    }
+    Ok(Placed {
+        token: Token::String { start: next, len },
+        first: at,
+        next: next + len,
+    })
 }
 
 // The token at a place.
@@ -125,26 +108,25 @@ pub fn binary_token(input: &[u8], at: usize) -> Read
     ensures { read_meaning result ≡ binary_at input.now at }
 {
     if input.len() < at {
-        return Read::Beyond;
+        return Err(Unread::Beyond);
     }
-    if input.len() <= at {
-        return Read::Incomplete;
+    if input.len() == at {
+        return Err(Unread::Incomplete);
     }
-    let b = input[at];
-    match b {
+    match input[at] {
         0x01 => string_token(input, at),
         0x02 => int64_token(input, at),
         0x03 => double_token(input, at),
-        0x04 => Read::Token {
+        0x04 => Ok(Placed {
             token: Token::Boolean(false),
             first: at,
             next: at + 1,
-        },
-        0x05 => Read::Token {
+        }),
+        0x05 => Ok(Placed {
             token: Token::Boolean(true),
             first: at,
             next: at + 1,
-        },
+        }),
         0x06 => uint64_token(input, at),
         _ => token::mark_at(input, at),
     }

@@ -13,10 +13,12 @@ use Rattle.varint.specs.Varint.{uvarint_at, uvarint_end}
 use Rattle.zigzag.specs.Zigzag.{signed}
 use Rattle.varint.specs.Signed.{signed_answer, varint_at}
 use Rattle.zigzag.proofs.Laws.{even, odd}
+use Rattle.refusal.specs.Meaning.{unread_meaning}
+use Rattle.refusal.specs.declared.Unread.{Unread}
+use Rattle.refusal.specs.declared.Unread.TheVariants as u
 use Rattle.token.specs.declared.Token.{Token}
 use Rattle.token.specs.declared.Token.TheVariants.{BeginAttributes, EndAttributes, BeginList, EndList, BeginMap, EndMap, String, Escaped, Int64, Uint64, Double, Decimal, Boolean, Entity, KeyValueSeparator, ItemSeparator}
-use Rattle.token.specs.declared.Mark.{Mark}
-use Rattle.token.specs.declared.Mark.TheVariants.{Is, Not}
+use Rattle.std.specs.Prelude.{Option, Some, None}
 use Rattle.token.specs.Meaning.{kinds_of}
 use Rattle.token.specs.Marks.{mark_of, of_mark}
 use Rattle.token.specs.Ends.{end_of, string_end, scalar_end}
@@ -29,7 +31,7 @@ abbrev Ends : Paper (Spot Token) → Type 0
 Ends p = scalar_end (kinds_of p) ≡ end_of p
 
 abbrev NoString : Paper (Spot Token) → Type 0
-NoString p = string_end (kinds_of p) ≡ 0
+NoString p = string_end (kinds_of p) ≡ None
 
 -- ---- a scalar's end is its token's end
 
@@ -100,7 +102,7 @@ module _ (s : List ℕ) (at : ℕ) where
   scalar_at b h e = sym (ap (λ (p : Paper (Spot Token)). scalar_end (kinds_of p)) (inside s at h ∙ ap (marked s at) e))
 
   -- the token of one byte at a place, by that byte
-  pub one_byte : (b : ℕ) → at < length s → get_or s at 0 ≡ b → end_of (marked s at b) ≡ at + 1 → at + 1 ≡ end_of (binary_from s at)
+  pub one_byte : (b : ℕ) → at < length s → get_or s at 0 ≡ b → end_of (marked s at b) ≡ Some (at + 1) → Some (at + 1) ≡ end_of (binary_from s at)
   one_byte b h e m = sym (ap end_of (inside s at h ∙ ap (marked s at) e) ∙ m)
 
   -- ---- no string but behind 01
@@ -120,7 +122,7 @@ module _ (s : List ℕ) (at : ℕ) where
   double_no =
       holds NoString (ltb (length s - at) 9) more (gives (spot (Double (of_bits binary64 (little8 s (at + 1))) (little8 s (at + 1))) at (at + 9))) refl refl
 
-  abbrev MarkEnds : Mark → Type 0
+  abbrev MarkEnds : Option Token → Type 0
   MarkEnds m = Ends (of_mark at m)
 
   pub no_string : (b : ℕ) → (b ≡ 1 → ⊥) → NoString (marked s at b)
@@ -136,7 +138,7 @@ module _ (s : List ℕ) (at : ℕ) where
   -- ---- no scalar among the other marks, and nothing else ends
 
   pub no_scalar : (b : ℕ) → (b ≡ 1 → ⊥) → (b ≡ 2 → ⊥) → (b ≡ 3 → ⊥) → (b ≡ 4 → ⊥) → (b ≡ 5 → ⊥) → (b ≡ 6 → ⊥) → (b ≡ 0x23 → ⊥)
-      → scalar_end (kinds_of (marked s at b)) ≡ 0
+      → scalar_end (kinds_of (marked s at b)) ≡ None
   no_scalar b h₁ h₂ h₃ h₄ h₅ h₆ h₇ = ap (λ (p : Paper (Spot Token)). scalar_end (kinds_of p)) (unmarked s at b h₁ h₂ h₃ h₄ h₅ h₆) ∙ mark_no_scalar at b h₇
 
   pub rest_ends : (b : ℕ) → (b ≡ 0x3B → ⊥) → (b ≡ 0x3C → ⊥) → (b ≡ 0x3D → ⊥) → (b ≡ 0x3E → ⊥) → (b ≡ 0x5B → ⊥) → (b ≡ 0x5D → ⊥) → (b ≡ 0x7B → ⊥) → (b ≡ 0x7D → ⊥)
@@ -150,28 +152,28 @@ module _ (s : List ℕ) (at : ℕ) where
       (holds Ends (eqb b 4) _ _ refl
       (holds Ends (eqb b 5) _ _ refl
       (holds Ends (eqb b 6) _ _ (uint64_ends (uvarint_at s (at + 1)))
-      (holds MarkEnds (eqb b 0x23) (Is Entity) Not refl refl)))))))
+      (holds MarkEnds (eqb b 0x23) (Some Entity) None refl refl)))))))
 
 -- an end that the scalar reader gives is the token's
-pub end_of_scalar : (p : Paper (Spot Token)) → (scalar_end (kinds_of p) ≡ 0 → ⊥) → scalar_end (kinds_of p) ≡ end_of p
-end_of_scalar (gives (spot BeginAttributes first next)) h = absurd (h refl)
-end_of_scalar (gives (spot EndAttributes first next)) h = absurd (h refl)
-end_of_scalar (gives (spot BeginList first next)) h = absurd (h refl)
-end_of_scalar (gives (spot EndList first next)) h = absurd (h refl)
-end_of_scalar (gives (spot BeginMap first next)) h = absurd (h refl)
-end_of_scalar (gives (spot EndMap first next)) h = absurd (h refl)
-end_of_scalar (gives (spot (String x y) first next)) h = refl
-end_of_scalar (gives (spot (Escaped x y) first next)) h = refl
-end_of_scalar (gives (spot (Int64 z) first next)) h = refl
-end_of_scalar (gives (spot (Uint64 x) first next)) h = refl
-end_of_scalar (gives (spot (Double x y) first next)) h = refl
-end_of_scalar (gives (spot (Decimal x y) first next)) h = refl
-end_of_scalar (gives (spot (Boolean z) first next)) h = refl
-end_of_scalar (gives (spot Entity first next)) h = refl
-end_of_scalar (gives (spot KeyValueSeparator first next)) h = absurd (h refl)
-end_of_scalar (gives (spot ItemSeparator first next)) h = absurd (h refl)
-end_of_scalar more h = refl
-end_of_scalar (refused n vs) h = refl
+pub end_of_scalar : (p : Paper (Spot Token)) (n : ℕ) → Some n ≡ scalar_end (kinds_of p) → Some n ≡ end_of p
+end_of_scalar (gives (spot BeginAttributes first next)) n h = absurd cc
+end_of_scalar (gives (spot EndAttributes first next)) n h = absurd cc
+end_of_scalar (gives (spot BeginList first next)) n h = absurd cc
+end_of_scalar (gives (spot EndList first next)) n h = absurd cc
+end_of_scalar (gives (spot BeginMap first next)) n h = absurd cc
+end_of_scalar (gives (spot EndMap first next)) n h = absurd cc
+end_of_scalar (gives (spot (String x y) first next)) n h = h
+end_of_scalar (gives (spot (Escaped x y) first next)) n h = h
+end_of_scalar (gives (spot (Int64 z) first next)) n h = h
+end_of_scalar (gives (spot (Uint64 x) first next)) n h = h
+end_of_scalar (gives (spot (Double x y) first next)) n h = h
+end_of_scalar (gives (spot (Decimal x y) first next)) n h = h
+end_of_scalar (gives (spot (Boolean z) first next)) n h = h
+end_of_scalar (gives (spot Entity first next)) n h = h
+end_of_scalar (gives (spot KeyValueSeparator first next)) n h = absurd cc
+end_of_scalar (gives (spot ItemSeparator first next)) n h = absurd cc
+end_of_scalar more n h = h
+end_of_scalar (refused m vs) n h = h
 
 -- ---- a string's end, by its length
 
@@ -186,13 +188,13 @@ module _ (s : List ℕ) where
   anywhere a b n (negsuc k) = refl
 
   module _ (v n : ℕ) where
-    pub odd_end : v % 2 ≡ 1 → end_of (of_size s 0 n (signed v)) ≡ 0
+    pub odd_end : v % 2 ≡ 1 → end_of (of_size s 0 n (signed v)) ≡ None
     odd_end h = rw (odd v h)
 
-    pub short_end : v % 2 ≡ 0 → length s - n < v / 2 → end_of (of_size s 0 n (signed v)) ≡ 0
+    pub short_end : v % 2 ≡ 0 → length s - n < v / 2 → end_of (of_size s 0 n (signed v)) ≡ None
     short_end h k = rw (even v h, lt-ltb (length s - n) (v / 2) k)
 
-    pub whole_end : v % 2 ≡ 0 → v / 2 ≤ length s - n → end_of (of_size s 0 n (signed v)) ≡ n + v / 2
+    pub whole_end : v % 2 ≡ 0 → v / 2 ≤ length s - n → end_of (of_size s 0 n (signed v)) ≡ Some (n + v / 2)
     whole_end h k = rw (even v h, le-ltb (length s - n) (v / 2) k)
 
   module _ (at : ℕ) where
@@ -200,10 +202,15 @@ module _ (s : List ℕ) where
     unfolding varint_at
     by_length v n e = anywhere 0 at n (signed v) ∙ ap (λ (p : Paper (Got ℕ)). end_of (of_length s at (signed_answer p))) (sym e)
 
-    pub by_more : uvarint_at s (at + 1) ≡ more → 0 ≡ end_of (of_length s at (varint_at s (at + 1)))
+    pub by_more : uvarint_at s (at + 1) ≡ more → None ≡ end_of (of_length s at (varint_at s (at + 1)))
     unfolding varint_at
     by_more e = ap (λ (p : Paper (Got ℕ)). end_of (of_length s at (signed_answer p))) (sym e)
 
-    pub by_refused : (n : ℕ) (vs : List ℕ) → uvarint_at s (at + 1) ≡ refused n vs → 0 ≡ end_of (of_length s at (varint_at s (at + 1)))
+    pub by_refused : (n : ℕ) (vs : List ℕ) → uvarint_at s (at + 1) ≡ refused n vs → None ≡ end_of (of_length s at (varint_at s (at + 1)))
     unfolding varint_at
     by_refused n vs e = ap (λ (p : Paper (Got ℕ)). end_of (of_length s at (signed_answer p))) (sym e)
+
+    pub by_unread : (e : Unread) → uvarint_at s (at + 1) ≡ unread_meaning e → None ≡ end_of (of_length s at (varint_at s (at + 1)))
+    by_unread u.Incomplete e = by_more e
+    by_unread (u.Refused r) e = by_refused _ _ e
+    by_unread u.Beyond e = by_refused _ _ e

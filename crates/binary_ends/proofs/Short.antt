@@ -4,6 +4,7 @@ use mathlib.Core.Bool.{Bool, true, false}
 use mathlib.Core.List.{List}
 use Prim.Native.Nat.{ℕ, ◌+◌, ◌≤◌, ◌<◌}
 use lib.Dec.{ltb}
+use Rattle.std.specs.Prelude.{Option, Some, None}
 use lib.ListN.{length, get_or}
 use borrow.Author.Tests.{lt-ltb, le-ltb}
 use Rattle.refusal.specs.Paper.{pick}
@@ -13,33 +14,33 @@ use Rattle.binary.specs.Binary.{binary_from}
 use Rattle.binary_ends.specs.Short.{short_string_end}
 
 -- two tests before an end
-either_none : (a b : Bool) (x : ℕ) → x ≡ 0 → pick a (pick b x 0) 0 ≡ 0
+either_none : (a b : Bool) (x : Option ℕ) → x ≡ None → pick a (pick b x None) None ≡ None
 either_none true true x e = e
 either_none true false x e = refl
 either_none false b x e = refl
 
-some_is : (a b : Bool) (x r : ℕ) → r ≡ pick a (pick b x 0) 0 → (r ≡ 0 → ⊥) → r ≡ x
-some_is true true x r e h = e
-some_is true false x r e h = absurd (h e)
-some_is false b x r e h = absurd (h e)
+some_is : (a b : Bool) (x : Option ℕ) (n : ℕ) → Some n ≡ pick a (pick b x None) None → Some n ≡ x
+some_is true true x n e = e
+some_is true false x n e = absurd cc
+some_is false b x n e = absurd cc
 
 module _ (s : List ℕ) (at : ℕ) where
   -- no string stands there
-  pub short_none : string_end (kinds_of (binary_from s at)) ≡ 0 → short_string_end s at ≡ 0
+  pub short_none : string_end (kinds_of (binary_from s at)) ≡ None → short_string_end s at ≡ None
   unfolding short_string_end
   short_none e = either_none (ltb (at + 1) (length s)) (ltb (get_or s (at + 1) 0) 128) _ e
 
   -- no byte stands behind the marker
-  pub short_cut : length s ≤ at + 1 → short_string_end s at ≡ 0
+  pub short_cut : length s ≤ at + 1 → short_string_end s at ≡ None
   unfolding short_string_end
   short_cut h = rw (le-ltb (at + 1) (length s) h)
 
   -- the byte there is not the whole length
-  pub short_long : 128 ≤ get_or s (at + 1) 0 → short_string_end s at ≡ 0
+  pub short_long : 128 ≤ get_or s (at + 1) 0 → short_string_end s at ≡ None
   unfolding short_string_end
   short_long h = rw (le-ltb (get_or s (at + 1) 0) 128 h) (by (ltb (at + 1) (length s)))
     where
-      by : (q : Bool) → ◌≡◌ {A = ℕ} (pick q 0 0) 0
+      by : (q : Bool) → ◌≡◌ {A = Option ℕ} (pick q None None) None
       by true = refl
       by false = refl
 
@@ -49,6 +50,6 @@ module _ (s : List ℕ) (at : ℕ) where
   short_here h g = rw (lt-ltb (at + 1) (length s) h, lt-ltb (get_or s (at + 1) 0) 128 g)
 
   -- an end that is given is the string's
-  pub short_string : (r : ℕ) → r ≡ short_string_end s at → (r ≡ 0 → ⊥) → r ≡ string_end (kinds_of (binary_from s at))
+  pub short_string : (n : ℕ) → Some n ≡ short_string_end s at → Some n ≡ string_end (kinds_of (binary_from s at))
   unfolding short_string_end
-  short_string r e h = some_is (ltb (at + 1) (length s)) (ltb (get_or s (at + 1) 0) 128) _ r e h
+  short_string n e = some_is (ltb (at + 1) (length s)) (ltb (get_or s (at + 1) 0) 128) _ n e

@@ -9,6 +9,7 @@ use native.Mathlib.Omega.{arith}
 use lib.Bits.{bit_and, bit_xor}
 use lib.Count.{count_trailing_zeros}
 use lib.Dec.{ltb}
+use Rattle.std.specs.Prelude.{Some}
 use lib.ListN.{length, drop, get_or, length-drop}
 use lib.Seq.{get_or-drop}
 use borrow.Author.Tests.{ltb-true, ltb-false}
@@ -61,7 +62,7 @@ module _ (s : List ℕ) (at : ℕ) (inside : at ≤ length s) where
 -- the varint at a place, by the marks of the eight bytes there
 pub word_end : (s : List ℕ) (at m k : ℕ) → ((i : ℕ) → get_or s i 0 < 256) → at + 8 ≤ length s
     → m ≡ bit_xor (bit_and (word_at 8 s at) 0x8080808080808080) 0x8080808080808080 → k ≡ count_trailing_zeros 64 m / 8 → k < 8
-    → uvarint_end (uvarint_at s at) ≡ at + suc k
+    → uvarint_end (uvarint_at s at) ≡ Some (at + suc k)
 word_end s at m k known h e t l =
     let z : at + 0 ≡ at = omega arith in
     let f : m ≡ marks_at ends 8 s (at + 0) = e ∙ marks_are s known 8 at ∙ ap (marks_at ends 8 s) (sym z) in

@@ -2,7 +2,7 @@
 // The definitions are the ends of `binary_from` (specs/Binary.antt of crate `binary`), and `short_string_end` (specs/Short.antt).
 #![tactic(auto)]
 
-ghost use Rattle.std.specs.Prelude.{◌≡◌, ◌+◌, ◌/◌, ◌%◌, ◌≤◌, ◌<◌, length, get_or};
+ghost use Rattle.std.specs.Prelude.{◌≡◌, ◌+◌, ◌/◌, ◌%◌, ◌≤◌, ◌<◌, length, get_or, Some};
 ghost use Rattle.std.specs.Int.Bits.{bit_and, bit_xor};
 ghost use Rattle.zigzag.specs.Zigzag.{signed};
 ghost use Rattle.varint.specs.Signed.{varint_at};
@@ -12,28 +12,28 @@ ghost use Rattle.word.specs.Word.{word_at};
 ghost use Rattle.binary.specs.Binary.{of_size, of_length, double_at, marked, binary_from};
 ghost use Rattle.binary_ends.specs.Short.{short_string_end};
 
-use varint::Uvarint;
+use varint::Varint;
 
 // The size of a scalar that is not told by the bytes looked at.
 const UNKNOWN: usize = 1000;
 
-// The place after a string whose zigzag length was read up to `next`; 0 where it is below zero or the bytes end before.
-fn sized_end(input: &[u8], value: u64, next: usize) -> usize
+// The place after a string whose zigzag length was read up to `next`, unless that is below zero or the bytes end before.
+fn sized_end(input: &[u8], value: u64, next: usize) -> Option<usize>
     requires { next ≤ length input.now }
     ensures { result ≡ end_of (of_size input.now 0 next (signed value)) }
 {
     if value % 2 == 1 {
-        return 0;
+        return None;
     }
     let len = (value / 2) as usize;
     if input.len() - next < len {
-        return 0;
+        return None;
     }
-    next + len
+    Some(next + len)
 }
 
-// The place after the string whose marker stands at `at`; 0 where no whole one does. Most lengths are one byte.
-fn string_at_end(input: &[u8], at: usize) -> usize
+// The place after the string whose marker stands at `at`, where a whole one does. Most lengths are one byte.
+fn string_at_end(input: &[u8], at: usize) -> Option<usize>
     requires { at < length input.now }
     ensures { result ≡ end_of (of_length input.now at (varint_at input.now (at + 1))) }
 {
@@ -41,73 +41,68 @@ fn string_at_end(input: &[u8], at: usize) -> usize
     if p < input.len() {
         let b = input[p];
         if b < 128 {
-            return sized_end(input, b as u64, p + 1);
+            return sized_end(input, u64::from(b), p + 1);
         }
     }
     match varint::read_uvarint(input, p) {
-        Uvarint::Value { value, next } => sized_end(input, value, next),
-        Uvarint::More => 0,
-        Uvarint::Refused { refusal: _ } => 0,
-        Uvarint::Beyond => 0,
+        Ok(Varint { value, next }) => sized_end(input, value, next),
+        Err(_) => None,
     }
 }
 
-// The place after the double whose marker stands at `at`; 0 where the bytes end inside it.
-fn double_end(input: &[u8], at: usize) -> usize
+// The place after the double whose marker stands at `at`, unless the bytes end inside it.
+fn double_end(input: &[u8], at: usize) -> Option<usize>
     requires { at < length input.now }
     ensures { result ≡ end_of (double_at input.now at) }
 {
     if input.len() - at < 9 {
-        return 0;
+        return None;
     }
-    at + 9
+    Some(at + 9)
 }
 
-// The place after the string token at a place; 0 where no whole string stands there.
-pub fn string_end(input: &[u8], at: usize) -> usize
+// The place after the string token at a place, where a whole one stands.
+pub fn string_end(input: &[u8], at: usize) -> Option<usize>
     ensures { result ≡ string_end (kinds_of (binary_from input.now at)) }
 {
     if input.len() <= at {
-        return 0;
+        return None;
     }
     if input[at] == 0x01 {
         return string_at_end(input, at);
     }
-    0
+    None
 }
 
-// The place after the string at a place where one byte holds its length; 0 where no such string stands there whole.
-pub fn short_string_end(input: &[u8], at: usize) -> usize
+// The place after the string at a place where one byte holds its length, where such a string stands there whole.
+pub fn short_string_end(input: &[u8], at: usize) -> Option<usize>
     ensures { result ≡ short_string_end input.now at }
 {
     if input.len() <= at {
-        return 0;
+        return None;
     }
     if input[at] != 0x01 {
-        return 0;
+        return None;
     }
     let p = at + 1;
     if input.len() <= p {
-        return 0;
+        return None;
     }
     let b = input[p];
     if 128 <= b {
-        return 0;
+        return None;
     }
-    sized_end(input, b as u64, p + 1)
+    sized_end(input, u64::from(b), p + 1)
 }
 
 // The size of a string behind its marker, by its length's first byte, which is the whole length where it is below 128.
 fn by_length(first: u8) -> usize
     ensures { (result ≡ 1000 → ⊥) → (first % 2 ≡ 0) × (first < 128) × (result ≡ first / 2 + 1) }
 {
-    if first % 2 == 1 {
+    if first % 2 == 1 || 128 <= first {
         return UNKNOWN;
     }
-    if 128 <= first {
-        return UNKNOWN;
-    }
-    (first / 2) as usize + 1
+    usize::from(first / 2) + 1
 }
 
 // The top bit of each of eight bytes that can end a varint, which are those without it.
@@ -145,20 +140,17 @@ fn by_last(last: usize) -> usize
 fn by_flag(b: u8, size: usize) -> usize
     ensures { (b ≡ 4 → result ≡ 0) × (b ≡ 5 → result ≡ 0) × ((b ≡ 4 → ⊥) → (b ≡ 5 → ⊥) → result ≡ size) }
 {
-    if b == 0x04 {
-        return 0;
+    match b {
+        0x04 | 0x05 => 0,
+        _ => size,
     }
-    if b == 0x05 {
-        return 0;
-    }
-    size
 }
 
 // How many bytes a scalar has behind its marker b, which stands at `at`, as far as the next eight tell. Every kind is computed and one is
 // taken, so that nothing depends on guessing the kind.
 fn size_of(input: &[u8], b: u8, at: usize) -> usize
     requires { (at + 9 ≤ length input.now) × (0 < b) × (b ≤ 6) }
-    ensures { (result ≡ 1000 → ⊥) → at + 1 + result ≤ length input.now → at + 1 + result ≡ scalar_end (kinds_of (marked input.now at b)) }
+    ensures { (result ≡ 1000 → ⊥) → at + 1 + result ≤ length input.now → Some (at + 1 + result) ≡ scalar_end (kinds_of (marked input.now at b)) }
 {
     let marks = marks_for(b, last_marks(input, at + 1));
     let size = by_flag(b, by_last(word::low_mark(marks)));
@@ -170,24 +162,23 @@ fn size_of(input: &[u8], b: u8, at: usize) -> usize
 }
 
 // The place after the scalar whose marker stands at `at`, one kind after another.
-fn marked_end(input: &[u8], at: usize) -> usize
+fn marked_end(input: &[u8], at: usize) -> Option<usize>
     requires { (at < length input.now) × (get_or input.now at 0 ≤ 6) }
     ensures { result ≡ scalar_end (kinds_of (binary_from input.now at)) }
 {
-    let b = input[at];
-    match b {
+    match input[at] {
         0x01 => string_at_end(input, at),
         0x02 => varint::uvarint_end(input, at + 1),
         0x03 => double_end(input, at),
-        0x04 => at + 1,
-        0x05 => at + 1,
+        0x04 => Some(at + 1),
+        0x05 => Some(at + 1),
         0x06 => varint::uvarint_end(input, at + 1),
-        _ => 0,
+        _ => None,
     }
 }
 
 // The same by its marker b. A string comes first: one whose length takes more than a byte is the commonest to come here.
-fn other_end(input: &[u8], b: u8, at: usize) -> usize
+fn other_end(input: &[u8], b: u8, at: usize) -> Option<usize>
     requires { (at < length input.now) × (b ≡ get_or input.now at 0) × (b ≤ 6) }
     ensures { result ≡ scalar_end (kinds_of (binary_from input.now at)) }
 {
@@ -198,7 +189,7 @@ fn other_end(input: &[u8], b: u8, at: usize) -> usize
 }
 
 // The place after the scalar whose marker b stands at `at`. An int64 of one byte comes first, and then what eight bytes tell.
-fn told_end(input: &[u8], b: u8, at: usize) -> usize
+fn told_end(input: &[u8], b: u8, at: usize) -> Option<usize>
     requires { (at < length input.now) × (b ≡ get_or input.now at 0) × (0 < b) × (b ≤ 6) }
     ensures { result ≡ scalar_end (kinds_of (binary_from input.now at)) }
 {
@@ -208,59 +199,49 @@ fn told_end(input: &[u8], b: u8, at: usize) -> usize
         return marked_end(input, at);
     }
     if input[p] / 128 * 128 + b == 0x02 {
-        return p + 1;
+        return Some(p + 1);
     }
     let size = size_of(input, b, at);
-    if left < size {
+    if left < size || size == UNKNOWN {
         return other_end(input, b, at);
     }
-    if size == UNKNOWN {
-        return other_end(input, b, at);
-    }
-    p + size
+    Some(p + size)
 }
 
-// The place after the string or other scalar at a place, whose value is not asked for; 0 where no whole one stands there.
-pub fn scalar_end(input: &[u8], at: usize) -> usize
+// The place after the string or other scalar at a place, whose value is not asked for, where a whole one stands.
+pub fn scalar_end(input: &[u8], at: usize) -> Option<usize>
     ensures { result ≡ scalar_end (kinds_of (binary_from input.now at)) }
 {
     if input.len() <= at {
-        return 0;
-    }
-    let b = input[at];
-    if 6 < b {
-        if b == 0x23 {
-            return at + 1;
-        }
-        return 0;
-    }
-    if b == 0 {
-        return 0;
-    }
-    told_end(input, b, at)
-}
-
-// The place after the token at a place, whatever it is; 0 where no whole one stands there.
-pub fn token_end(input: &[u8], at: usize) -> usize
-    ensures { result ≡ end_of (binary_from input.now at) }
-{
-    let q = scalar_end(input, at);
-    if q != 0 {
-        return q;
-    }
-    if input.len() <= at {
-        return 0;
+        return None;
     }
     let b = input[at];
     match b {
-        0x3B => at + 1,
-        0x3C => at + 1,
-        0x3D => at + 1,
-        0x3E => at + 1,
-        0x5B => at + 1,
-        0x5D => at + 1,
-        0x7B => at + 1,
-        0x7D => at + 1,
-        _ => 0,
+        1..=6 => told_end(input, b, at),
+        b'#' => Some(at + 1),
+        _ => None,
+    }
+}
+
+// The place after the token at a place, whatever it is, where a whole one stands.
+pub fn token_end(input: &[u8], at: usize) -> Option<usize>
+    ensures { result ≡ end_of (binary_from input.now at) }
+{
+    if let Some(end) = scalar_end(input, at) {
+        return Some(end);
+    }
+    if input.len() <= at {
+        return None;
+    }
+    match input[at] {
+        b';' => Some(at + 1),
+        b'<' => Some(at + 1),
+        b'=' => Some(at + 1),
+        b'>' => Some(at + 1),
+        b'[' => Some(at + 1),
+        b']' => Some(at + 1),
+        b'{' => Some(at + 1),
+        b'}' => Some(at + 1),
+        _ => None,
     }
 }

@@ -8,7 +8,7 @@ use lib.Dec.{eqb, ltb}
 use lib.IntN.{ℤ, pos, negsuc}
 use lib.Ieee.{binary64, of_bits}
 use lib.ListN.{length, get_or}
-use borrow.Author.Tests.{eqb-true, ne_eqb}
+use borrow.Author.Tests.{eqb-true}
 use Rattle.refusal.specs.Paper.{Paper, gives, more, refused, Got, got, Spot, spot, pick}
 use Rattle.refusal.specs.declared.Format.TheVariants.{Binary}
 use Rattle.varint.specs.Varint.{uvarint_at}
@@ -17,7 +17,7 @@ use Rattle.token.specs.declared.Token.{Token}
 use Rattle.token.specs.declared.Token.TheVariants as token
 use Rattle.token.specs.declared.Kind.{Kind}
 use Rattle.token.specs.declared.Kind.TheVariants.{Text, Scalar}
-use Rattle.token.specs.declared.Mark.{Mark}
+use Rattle.std.specs.Prelude.{Option}
 use Rattle.token.specs.Meaning.{kind_of, kinds_of}
 use Rattle.token.specs.Marks.{mark_of, of_mark}
 use Rattle.token.specs.Ends.{end_of}
@@ -32,12 +32,6 @@ use Rattle.blocks.specs.Moves.{kind_by}
 pub pick_case : {A : Type 0} (P : A → Type 0) (t : Bool) (x y : A) → (t ≡ true → P x) → (t ≡ false → P y) → P (pick t x y)
 pick_case P true x y f g = f refl
 pick_case P false x y f g = g refl
-
--- a byte that is no mark's and no string's
-pub is_scalar : (b : ℕ) → (b ≡ 0x5B → ⊥) → (b ≡ 0x5D → ⊥) → (b ≡ 0x7B → ⊥) → (b ≡ 0x7D → ⊥) → (b ≡ 0x3C → ⊥) → (b ≡ 0x3E → ⊥) → (b ≡ 0x3D → ⊥) → (b ≡ 0x3B → ⊥) → (b ≡ 0x01 → ⊥) → kind_by b ≡ Scalar
-unfolding kind_by
-is_scalar b h₁ h₂ h₃ h₄ h₅ h₆ h₇ h₈ h₉ =
-    rw (ne_eqb b 0x5B h₁, ne_eqb b 0x5D h₂, ne_eqb b 0x7B h₃, ne_eqb b 0x7D h₄, ne_eqb b 0x3C h₅, ne_eqb b 0x3E h₆, ne_eqb b 0x3D h₇, ne_eqb b 0x3B h₈, ne_eqb b 0x01 h₉)
 
 -- ---- the kind of a token, by the byte at its place
 
@@ -78,7 +72,7 @@ module _ (s : List ℕ) (at : ℕ) where
   is : (b c : ℕ) → eqb b c ≡ true → kind_by b ≡ kind_by c
   is b c e = ap kind_by (eqb-true b c e)
 
-  abbrev Marked : ℕ → Mark → Type 0
+  abbrev Marked : ℕ → Option Token → Type 0
   Marked b m = Kindly (kind_by b) (of_mark at m)
 
   mark_kindly : (b : ℕ) → Marked b (mark_of b)

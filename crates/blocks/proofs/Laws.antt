@@ -1,38 +1,41 @@
 -- The readings, one at a time, with no count of steps in sight. Assumes nothing.
 use mathlib.Core.Path.{◌≡◌, refl, sym, ap, ◌∙◌}
-use mathlib.Core.Logic.{◌⊎◌, inl, inr, ⊎_elim}
+use mathlib.Core.Bool.{Bool, true, false}
+use mathlib.Core.Logic.{⊎_elim}
+use Rattle.std.specs.Prelude.{Some, None, Result, Ok, Err}
 use mathlib.Core.List.{List, [], ◌∷◌}
-use Prim.Native.Nat.{ℕ, zero, suc, ◌+◌, ◌-◌, ◌≤◌, ◌<◌}
+use Prim.Native.Nat.{ℕ, zero, suc, ◌+◌, ◌≤◌, ◌<◌}
 use native.Mathlib.Omega.{arith}
+use lib.Dec.{eqb}
 use lib.ListN.{length, get_or}
-use borrow.Author.Tests.{lt-ltb, le-ltb}
-use Rattle.refusal.specs.Paper.{Paper, gives, more, refused, Spot, spot}
+use borrow.Author.Tests.{lt-ltb, le-ltb, ne_eqb}
+use Rattle.refusal.specs.Paper.{Paper, gives, more, refused, Spot, spot, pick}
 use Rattle.refusal.specs.declared.Format.TheVariants.{Binary}
 use Rattle.refusal.proofs.Cases.{either}
 use Rattle.token.specs.declared.Kind.{Kind}
 use Rattle.token.specs.Ends.{end_of}
 use Rattle.binary.specs.Binary.{binary_from}
-use Rattle.lexer.specs.Lexer.{kind_at}
-use Rattle.automaton.specs.Step.{list, map, attributes, Step, go, finished, wrong, deep, step}
-use Rattle.automaton.specs.Step as automaton
+use Rattle.refusal.specs.declared.Unread.{Unread}
+use Rattle.refusal.specs.declared.Unread.TheVariants.{Beyond}
+use Rattle.token.specs.declared.Placed.{Placed}
+use Rattle.token.specs.Meaning.{read_meaning, kinds_of}
+use Rattle.binary.specs.Binary.{binary_at}
+use Rattle.binary.proofs.Laws.{from_is}
+use Rattle.lexer.specs.Lexer.{kind_at, token_from}
+use Rattle.lexer.proofs.Laws.{refused_is}
+use Rattle.automaton.specs.Step.{Step, go, finished, wrong, deep, step}
 use Rattle.kept.specs.declared.Blocks.{Blocks}
-use Rattle.blocks.specs.declared.Move.{Move}
 use Rattle.refusal.specs.Numbers.{too_deep}
-use Rattle.refusal.specs.Meaning.{refusal_meaning, named_by}
+use Rattle.refusal.specs.Meaning.{why_number, why_of, refusal_at, refusal_meaning, named_by}
+use Rattle.refusal.specs.declared.Refusal.{Refusal}
+use Rattle.refusal.proofs.Laws.{named_by_its_number}
+use Rattle.refusal.specs.declared.Why.{Why}
+use Rattle.refusal.specs.declared.Why.TheVariants.{TooDeep}
 use Rattle.automaton.specs.Limit.{most_open}
-use Rattle.automaton.proofs.Named.{wrong_named, named_means}
-use lib.ListN.{set}
-use Rattle.kept.specs.declared.Due.{Due}
-use Rattle.kept.specs.declared.Due.TheVariants.{Value, Object, Item, Key, Equals}
-use Rattle.blocks.specs.declared.Move.TheVariants.{OpenList, OpenMap, OpenAttributes, CloseItem, CloseKey, CloseObject, Stay, ToItem, ToKey, ToEquals, ToValue, Finish, Wrong, Deep}
-use Rattle.kept.specs.Kept.{around, due_of, blocks_of, blocks_then, no_blocks, open_in, byte_of}
-use Rattle.kept.proofs.Stack.{blocks, then_open, then_close, then_keep}
-use Rattle.blocks.specs.Moves.{kind_by, wrong_by, step_of, Apt, Moves}
+use Rattle.automaton.proofs.Named.{named_means}
+use Rattle.kept.specs.Kept.{due_of, blocks_of, blocks_then, no_blocks}
+use Rattle.blocks.specs.Moves.{kind_by, Turn, turned, turn_of, refused_at}
 use Rattle.blocks.specs.Readings.{reached, Reader, Grows, Onward, on_step, on_token, read_for, read_on, read_from, pass_of, binary, not_whole}
-use Rattle.blocks.specs.Stops.{moved_by, kept_by}
-use Rattle.blocks.specs.declared.Stop.{Stop}
-use Rattle.blocks.specs.declared.Stop.TheVariants.{Ended, Unread, Whole}
-use Rattle.blocks.specs.declared.Stop.TheVariants as why
 use Rattle.blocks.proofs.Firsts.{token_is, end_is}
 
 -- over any token reader whose tokens take a byte at least
@@ -88,114 +91,88 @@ module _ (t : Reader) (G : Grows t) (s : List ℕ) where
 pub binary_grows : Grows binary
 binary_grows s p k a n e = let g = token_is s p k a n e in (g.2, g.3)
 
-module _ (s : List ℕ) where
-  module _ (p : ℕ) (b : Blocks) (n : ℕ) where
-    -- a token that is whole
-    whole_token : (q : ℕ) (r : Paper (Spot Kind)) → kind_at Binary s p ≡ r → end_of r ≡ q → (q ≡ 0 → ⊥) → (r ≡ gives (spot (kind_by (get_or s p 0)) p q)) × ((p < q) × (q ≤ length s))
-    whole_token q (gives (spot t first next)) e f h =
-        let g = token_is s p t first next e in
-        let x = g.0 in
-        let y = g.1 in
-        (cc, (omega (arith, g.2), omega (arith, g.3)))
-    whole_token q more e f h = absurd (h (sym f))
-    whole_token q (refused m vs) e f h = absurd (h (sym f))
+module _ (s : List ℕ) (p : ℕ) where
+  -- a token that is whole
+  whole_token : (q : ℕ) (r : Paper (Spot Kind)) → kind_at Binary s p ≡ r → end_of r ≡ Some q → (r ≡ gives (spot (kind_by (get_or s p 0)) p q)) × ((p < q) × (q ≤ length s))
+  whole_token q (gives (spot t first next)) e f =
+      let g = token_is s p t first next e in
+      let x = g.0 in
+      let y = g.1 in
+      let z : next ≡ q = cc in
+      (cc, (omega (arith, g.2), omega (arith, g.3)))
+  whole_token q more e f = cc
+  whole_token q (refused m vs) e f = cc
 
-    module _ (q : ℕ) (e : q ≡ end_of (binary_from s p)) where
-      -- where it ends
-      pub token_ends : (q ≡ 0 → ⊥) → (p < q) × (q ≤ length s)
-      token_ends h = (whole_token q (kind_at Binary s p) refl (sym (e ∙ end_is s p)) h).1
+  module _ (q : ℕ) (e : Some q ≡ end_of (binary_from s p)) where
+    -- where it ends
+    pub token_ends : (p < q) × (q ≤ length s)
+    token_ends = (whole_token q (kind_at Binary s p) refl (sym (e ∙ end_is s p))).1
 
-      pub turn_whole : p < length s → (q ≡ 0 → ⊥) → (r : Move) → step_of r (due_of b.due) (blocks_of b) ≡ step (due_of b.due) (blocks_of b) (kind_by (get_or s p 0))
-          → read_on binary s p b n ≡ on_step (read_on binary s) p q p b (n + 1) (step_of r (due_of b.due) (blocks_of b))
-      unfolding on_token
-      turn_whole l h r m =
-          read_turn binary binary_grows s p b n l ∙ ap (on_token (read_on binary s) p b (n + 1)) (whole_token q (kind_at Binary s p) refl (sym (e ∙ end_is s p)) h).0
-          ∙ ap (on_step (read_on binary s) p q p b (n + 1)) (sym m)
+    -- its step
+    pub token_whole : (k : Onward) (b : Blocks) (n : ℕ) → on_token k p b n (kind_at Binary s p) ≡ on_step k p q p b n (step (due_of b.due) (blocks_of b) (kind_by (get_or s p 0)))
+    unfolding on_token
+    token_whole k b n = ap (on_token k p b n) (whole_token q (kind_at Binary s p) refl (sym (e ∙ end_is s p))).0
 
-      pub turn_none : p < length s → q ≡ 0 → (a : Paper ℕ) → not_whole (kind_at Binary s p) a → read_on binary s p b n ≡ reached p (n + 1) b a
-      unfolding on_token
-      turn_none l h a w = read_turn binary binary_grows s p b n l ∙ by (kind_at Binary s p) refl w
-        where
-          by : (r : Paper (Spot Kind)) → kind_at Binary s p ≡ r → not_whole r a → on_token (read_on binary s) p b (n + 1) r ≡ reached p (n + 1) b a
-          by (gives (spot t first next)) f w =
-              let g = token_is s p t first next f in
-              let z : end_of (kind_at Binary s p) ≡ next = ap end_of f in
-              absurd (omega (arith, g.2, e, end_is s p))
-          by more f w = ap (reached p (n + 1) b) (sym w)
-          by (refused m vs) f w = ap (reached p (n + 1) b) (sym w)
+  -- the answer where none is whole
+  pub token_none : None ≡ end_of (binary_from s p) → (k : Onward) (b : Blocks) (n : ℕ) (a : Paper ℕ) → not_whole (kind_at Binary s p) a → on_token k p b n (kind_at Binary s p) ≡ reached p n b a
+  unfolding on_token
+  token_none e k b n a w = by (kind_at Binary s p) (sym (e ∙ end_is s p)) w
+    where
+      by : (r : Paper (Spot Kind)) → end_of r ≡ None → not_whole r a → on_token k p b n r ≡ reached p n b a
+      by (gives (spot t first next)) f w = cc
+      by more f w = ap (reached p n b) (sym w)
+      by (refused m vs) f w = ap (reached p n b) (sym w)
 
--- the moves that neither end the record nor are refused
-abbrev pub Going : Move → Type 0
-Going r = (r ≡ Finish → ⊥) × (r ≡ Wrong → ⊥) × (r ≡ Deep → ⊥)
+-- what the full reader says of the token is what the automaton reads there, and the place is none beyond the bytes
+module _ (s : List ℕ) (p : ℕ) (t : Result Placed Unread) (l : p < length s) (told : read_meaning t ≡ binary_at s p) where
+  pub told_kind : kind_at Binary s p ≡ kinds_of (read_meaning t)
+  unfolding kind_at token_from
+  told_kind = sym (ap kinds_of (told ∙ from_is s p (omega arith)))
 
--- ---- each way of one reading of a whole token, from the place p with m blocks of the bytes ks open and d₀ due, to the place q
+  pub told_within : t ≡ Err Beyond → ⊥
+  told_within e = let g = refused_is Binary s p (told_kind ∙ ap (λ (t : Result Placed Unread). kinds_of (read_meaning t)) e) in omega (arith, g.1)
 
-module _ (s : List ℕ) (p m : ℕ) (d₀ : Due) (ks : List ℕ) (n q : ℕ) (e : q ≡ end_of (binary_from s p)) (l : p < length s) (h : q ≡ 0 → ⊥) (r : Move) (w : Moves (open_in m ks) m (due_of d₀) (step (due_of d₀) (open_in m ks) (kind_by (get_or s p 0))) r) where
-  by : (y : Move) → r ≡ y → read_on binary s p (blocks m d₀ ks) n ≡ on_step (read_on binary s) p q p (blocks m d₀ ks) (n + 1) (step_of y (due_of d₀) (open_in m ks))
-  by y g = turn_whole s p (blocks m d₀ ks) n q e l h r w.steps ∙ ap (λ (z : Move). on_step (read_on binary s) p q p (blocks m d₀ ks) (n + 1) (step_of z (due_of d₀) (open_in m ks))) g
+-- ---- what the readings make of a token's turn
 
-  -- the readings go on behind a step to the blocks K and the part d
-  on : (y : Move) → r ≡ y → (K : List automaton.Block) (d : Due) → step_of y (due_of d₀) (open_in m ks) ≡ go K (due_of d) → (b : Blocks) → blocks_then (blocks m d₀ ks) K (due_of d) ≡ b
-      → read_on binary s p (blocks m d₀ ks) n ≡ read_on binary s q b (n + 1)
-  unfolding on_step
-  on y g K d f b t = by y g ∙ ap (on_step (read_on binary s) p q p (blocks m d₀ ks) (n + 1)) f ∙ ap (λ (b : Blocks). read_on binary s q b (n + 1)) t
+-- what is wrong by such a number has it
+numbered : (m : ℕ) → 0 < m → m ≤ too_deep → why_number (why_of m) ≡ m
+numbered m h g = let e : refusal_meaning {A = ℕ} (named_by m 0) ≡ refused m (0 ∷ []) = named_means m 0 h g in cc
 
-  opens_list : r ≡ OpenList → read_on binary s p (blocks m d₀ ks) n ≡ read_on binary s q (blocks (m + 1) Item (set ks m 1)) (n + 1)
-  unfolding byte_of
-  opens_list g = on OpenList g (list ∷ open_in m ks) Item refl _ (then_open m ks d₀ Item list 1 refl)
+module _ (k : Onward) (p q n : ℕ) (b c : Blocks) (t : Step) where
+  pub turn_passes : (w : Bool) → turned (Ok w) c ≡ turn_of b t → pick w (reached q n c (gives q)) (k q c n) ≡ on_step k p q p b n t
+  unfolding turn_of on_step
+  turn_passes w e = by t e
+    where
+      by : (t : Step) → turned (Ok w) c ≡ turn_of b t → pick w (reached q n c (gives q)) (k q c n) ≡ on_step k p q p b n t
+      by (go K d) e = let a = ap (λ (x : Turn). x.answer) e in let f : w ≡ false = cc in let g : c ≡ blocks_then b K d = ap (λ (x : Turn). x.blocks) e in rw (f, g) refl
+      by finished e = let a = ap (λ (x : Turn). x.answer) e in let f : w ≡ true = cc in let g : c ≡ no_blocks = ap (λ (x : Turn). x.blocks) e in rw (f, g) refl
+      by (wrong m) e = let a = ap (λ (x : Turn). x.answer) e in cc
+      by deep e = let a = ap (λ (x : Turn). x.answer) e in cc
 
-  opens_map : r ≡ OpenMap → read_on binary s p (blocks m d₀ ks) n ≡ read_on binary s q (blocks (m + 1) Key (set ks m 2)) (n + 1)
-  unfolding byte_of
-  opens_map g = on OpenMap g (map ∷ open_in m ks) Key refl _ (then_open m ks d₀ Key map 2 refl)
+  -- only the step of a block too many comes to 13
+  pub turn_refuses : ((m : ℕ) → t ≡ wrong m → (0 < m) × (m < too_deep)) → (y : Why) → turned (Err y) c ≡ turn_of b t → reached p n c (refusal_meaning (refused_at y p q)) ≡ on_step k p q p b n t
+  unfolding turn_of on_step
+  turn_refuses shallow y e = by t refl e
+    where
+      by : (u : Step) → t ≡ u → turned (Err y) c ≡ turn_of b u → reached p n c (refusal_meaning (refused_at y p q)) ≡ on_step k p q p b n u
+      by (go K d) f e = let a = ap (λ (x : Turn). x.answer) e in cc
+      by finished f e = let a = ap (λ (x : Turn). x.answer) e in cc
+      by (wrong m) f e =
+          let s = shallow m f in
+          let a = ap (λ (x : Turn). x.answer) e in
+          let x : y ≡ why_of m = cc in
+          let z : why_number y ≡ m = ap why_number x ∙ numbered m s.0 (omega arith) in
+          let w : c ≡ b = ap (λ (x : Turn). x.blocks) e in
+          rw (z, w, ne_eqb m too_deep (λ i. omega arith)) refl
+      by deep f e = let a = ap (λ (x : Turn). x.answer) e in let x : y ≡ TooDeep = cc in let w : c ≡ b = ap (λ (x : Turn). x.blocks) e in rw (x, w) refl
 
-  opens_attributes_lem : r ≡ OpenAttributes → read_on binary s p (blocks m d₀ ks) n ≡ read_on binary s q (blocks (m + 1) Key (set ks m 3)) (n + 1)
-  unfolding byte_of
-  opens_attributes_lem g = on OpenAttributes g (attributes ∷ open_in m ks) Key refl _ (then_open m ks d₀ Key attributes 3 refl)
+-- no other refusal has the number of a block too many
+named_why : (y : Why) → why_of (why_number y) ≡ y
+named_why y = ap (λ (r : Refusal). r.why) (named_by_its_number (refusal_at y 0))
 
-  -- there is room for a block that opens, and one that ends is there
-  pub apt_as : (y : Move) → r ≡ y → Apt y m
-  apt_as y g = rw g at w.apt
-
-  closes : (y : Move) (d : Due) → r ≡ y → step_of y (due_of d₀) (open_in m ks) ≡ go (around (open_in m ks)) (due_of d) → 0 < m → read_on binary s p (blocks m d₀ ks) n ≡ read_on binary s q (blocks (m - 1) d ks) (n + 1)
-  closes y d g f a = on y g (around (open_in m ks)) d f _ (then_close m ks d₀ d (λ z. omega arith))
-
-  keeps : (y : Move) (d : Due) → r ≡ y → step_of y (due_of d₀) (open_in m ks) ≡ go (open_in m ks) (due_of d) → read_on binary s p (blocks m d₀ ks) n ≡ read_on binary s q (blocks m d ks) (n + 1)
-  keeps y d g f = on y g (open_in m ks) d f _ (then_keep m ks d₀ d)
-
-  -- the readings go on behind a move that neither ends the record nor is refused
-  goes_as : (y : Move) → r ≡ y → Going y → read_on binary s p (blocks m d₀ ks) n ≡ read_on binary s q (moved_by y m d₀ ks) (n + 1)
-  goes_as OpenList g h = opens_list g
-  goes_as OpenMap g h = opens_map g
-  goes_as OpenAttributes g h = opens_attributes_lem g
-  goes_as CloseItem g h = closes CloseItem Item g refl (apt_as CloseItem g)
-  goes_as CloseKey g h = closes CloseKey Key g refl (apt_as CloseKey g)
-  goes_as CloseObject g h = closes CloseObject Object g refl (apt_as CloseObject g)
-  goes_as Stay g h = keeps Stay d₀ g refl
-  goes_as ToItem g h = keeps ToItem Item g refl
-  goes_as ToKey g h = keeps ToKey Key g refl
-  goes_as ToEquals g h = keeps ToEquals Equals g refl
-  goes_as ToValue g h = keeps ToValue Value g refl
-  goes_as Finish g h = absurd (h.0 refl)
-  goes_as Wrong g h = absurd (h.1 refl)
-  goes_as Deep g h = absurd (h.2 refl)
-
-  pub goes : Going r → read_on binary s p (blocks m d₀ ks) n ≡ read_on binary s q (moved_by r m d₀ ks) (n + 1)
-  goes = goes_as r refl
-
-  pub finishes : r ≡ Finish → read_on binary s p (blocks m d₀ ks) n ≡ reached q (n + 1) no_blocks (gives q)
-  unfolding on_step
-  finishes g = by Finish g
-
-  pub refuses : (j : ℕ) → j ≡ wrong_by (due_of d₀) → r ≡ Wrong → read_on binary s p (blocks m d₀ ks) n ≡ reached p (n + 1) (blocks m d₀ ks) (refusal_meaning (named_by j q))
-  unfolding on_step
-  refuses j f g =
-      let u : step_of Wrong (due_of d₀) (open_in m ks) ≡ wrong j = ap wrong (sym f) in
-      let v = wrong_named (due_of d₀) (open_in m ks) (kind_by (get_or s p 0)) j (sym w.steps ∙ ap (λ (z : Move). step_of z (due_of d₀) (open_in m ks)) g ∙ u) in
-      by Wrong g ∙ ap (on_step (read_on binary s) p q p (blocks m d₀ ks) (n + 1)) u ∙ ap (reached p (n + 1) (blocks m d₀ ks)) (sym (named_means j q v.0 v.1))
-
-  pub too_deep_lem : r ≡ Deep → read_on binary s p (blocks m d₀ ks) n ≡ reached p (n + 1) (blocks m d₀ ks) (refused too_deep (p ∷ []))
-  unfolding on_step
-  too_deep_lem g = by Deep g
+pub other_number : (y : Why) → (y ≡ TooDeep → ⊥) → eqb (why_number y) too_deep ≡ false
+unfolding why_of
+other_number y h = ne_eqb (why_number y) too_deep (λ e. h (sym (named_why y) ∙ ap why_of e))
 
 -- ---- a caller's blocks
 
@@ -206,11 +183,3 @@ pass_few s p b h = rw (le-ltb most_open b.depth h)
 pub pass_many : (s : List ℕ) (p : ℕ) (b : Blocks) → most_open < b.depth → pass_of s p b ≡ reached p 0 b more
 unfolding pass_of
 pass_many s p b h = rw (lt-ltb most_open b.depth h)
-
--- ---- the blocks that stay open where a run stops
-
-pub kept_open : (x : Stop) → (x ≡ Ended) ⊎ ((x ≡ Unread) ⊎ ((x ≡ why.Wrong) ⊎ (x ≡ why.Deep))) → (b : Blocks) → kept_by x b ≡ b
-kept_open x (inl e) b = rw e refl
-kept_open x (inr (inl e)) b = rw e refl
-kept_open x (inr (inr (inl e))) b = rw e refl
-kept_open x (inr (inr (inr e))) b = rw e refl

@@ -1,16 +1,21 @@
 -- What the private functions of this crate say: a token's kind by its first byte, and what a token does to the open blocks.
-use Rattle.std.specs.Prelude.{◌≡◌, ℕ, ◌<◌, Bool, true, false, List, ◌∷◌, eqb, length}
-use Rattle.refusal.specs.Numbers.{not_value, not_key, not_equals}
+use Rattle.std.specs.Prelude.{ℕ, Bool, true, false, List, [], ◌∷◌, eqb, Result, Ok, Err, Option, Some, None}
+use Rattle.refusal.specs.Numbers.{not_value, not_key, not_equals, too_deep}
 use Rattle.refusal.specs.Paper.{pick}
+use Rattle.refusal.specs.Meaning.{why_number, why_of, refusal_at}
+use Rattle.refusal.specs.declared.Refusal.{Refusal}
+use Rattle.refusal.specs.declared.Why.{Why}
+use Rattle.refusal.specs.declared.Why.TheVariants.{TooDeep}
 use Rattle.token.specs.declared.Kind.{Kind}
 use Rattle.token.specs.declared.Kind.TheVariants as kind
-use Rattle.automaton.specs.Limit.{most_open}
 use Rattle.automaton.specs.Step as automaton
 use Rattle.automaton.specs.Step.{list, map, attributes, value, object, item, key, equals, Step, go, finished, wrong, deep, step}
+use Rattle.kept.specs.declared.Blocks.{Blocks}
 use Rattle.kept.specs.declared.Due.{Due}
-use Rattle.blocks.specs.declared.Move.{Move}
-use Rattle.blocks.specs.declared.Move.TheVariants.{OpenList, OpenMap, OpenAttributes, CloseItem, CloseKey, CloseObject, Stay, ToItem, ToKey, ToEquals, ToValue, Finish, Wrong, Deep}
-use Rattle.kept.specs.Kept.{due_of, around}
+use Rattle.kept.specs.declared.Due.TheVariants.{Item, Key}
+use Rattle.kept.specs.Kept.{list_byte, map_byte, attributes_byte, blocks_then, no_blocks}
+use Rattle.blocks.specs.declared.Block.{Block}
+use Rattle.blocks.specs.declared.Block.TheVariants.{List as ListBlock, Map, Attributes}
 
 -- the kind of a whole binary token, by its first byte
 unfoldable pub kind_by : ℕ → Kind
@@ -41,61 +46,49 @@ wrong_by item = not_value
 wrong_by key = not_key
 wrong_by equals = not_equals
 
--- what a move does where d is due in the blocks K
-abbrev pub step_of : Move → automaton.Due → List automaton.Block → Step
-step_of OpenList d K = go (list ∷ K) item
-step_of OpenMap d K = go (map ∷ K) key
-step_of OpenAttributes d K = go (attributes ∷ K) key
-step_of CloseItem d K = go (around K) item
-step_of CloseKey d K = go (around K) key
-step_of CloseObject d K = go (around K) object
-step_of Stay d K = go K d
-step_of ToItem d K = go K item
-step_of ToKey d K = go K key
-step_of ToEquals d K = go K equals
-step_of ToValue d K = go K value
-step_of Finish d K = finished
-step_of Wrong d K = wrong (wrong_by d)
-step_of Deep d K = deep
+-- what comes of a token, and the open blocks behind it: whether the record is whole, or why the token is refused
+pub record Turn : Type 0 where
+  pub answer : Result Bool Why
+  pub blocks : Blocks
 
--- a block is opened only where there is room, and ended only where one is open
-abbrev pub Apt : Move → ℕ → Type 0
-Apt OpenList n = n < most_open
-Apt OpenMap n = n < most_open
-Apt OpenAttributes n = n < most_open
-Apt CloseItem n = 0 < n
-Apt CloseKey n = 0 < n
-Apt CloseObject n = 0 < n
-Apt Stay n = Unit {0}
-Apt ToItem n = Unit {0}
-Apt ToKey n = Unit {0}
-Apt ToEquals n = Unit {0}
-Apt ToValue n = Unit {0}
-Apt Finish n = Unit {0}
-Apt Wrong n = Unit {0}
-Apt Deep n = Unit {0}
+abbrev pub turned : Result Bool Why → Blocks → Turn
+turned a b = record { answer = a; blocks = b }
 
--- where d is due in the blocks K, of which there are n, a move is the step t
-pub record Moves (K : List automaton.Block) (n : ℕ) (d : automaton.Due) (t : Step) (r : Move) : Type 0 where
-  pub steps : step_of r d K ≡ t
-  pub apt : Apt r n
+-- the same by the automaton's step in the blocks b
+unfoldable pub turn_of : Blocks → Step → Turn
+turn_of b (go K d) = turned (Ok false) (blocks_then b K d)
+turn_of b finished = turned (Ok true) no_blocks
+turn_of b (wrong m) = turned (Err (why_of m)) b
+turn_of b deep = turned (Err TooDeep) b
 
--- the same whatever is due
-abbrev pub Follows : List automaton.Block → ℕ → Step → Move → Type 0
-Follows K n t r = (d : automaton.Due) → Moves K n d t r
+-- a kind of block, as the automaton names it
+abbrev pub block_named : Block → automaton.Block
+block_named ListBlock = list
+block_named Map = map
+block_named Attributes = attributes
 
--- a move is the step of a token of kind k where d is due, in any blocks
-abbrev pub Anywhere : Due → Kind → Move → Type 0
-Anywhere d k r = (K : List automaton.Block) (n : ℕ) → Moves K n (due_of d) (step (due_of d) K k) r
+abbrev pub kind_byte : Block → ℕ
+kind_byte ListBlock = list_byte
+kind_byte Map = map_byte
+kind_byte Attributes = attributes_byte
 
--- the same in any n blocks
-abbrev pub Among : ℕ → Due → Kind → Move → Type 0
-Among n d k r = (K : List automaton.Block) → length K ≡ n → Moves K n (due_of d) (step (due_of d) K k) r
+abbrev pub due_in : Block → Due
+due_in ListBlock = Item
+due_in Map = Key
+due_in Attributes = Key
 
--- the move that opens a block where n are open, unless these are as many as may be
-abbrev pub room_for : ℕ → Move → Move
-room_for n y = pick (eqb n most_open) Deep y
+abbrev pub closing : Block → Kind
+closing ListBlock = kind.CloseList
+closing Map = kind.CloseMap
+closing Attributes = kind.CloseAttributes
 
--- the same where a value is due, and else a wrong token
-abbrev pub begins_value : ℕ → automaton.Due → Move → Move
-begins_value n d y = pick (value_due d) (room_for n y) Wrong
+-- the innermost block
+abbrev pub innermost_of : List automaton.Block → Option Block
+innermost_of [] = None
+innermost_of (list ∷ K) = Some ListBlock
+innermost_of (map ∷ K) = Some Map
+innermost_of (attributes ∷ K) = Some Attributes
+
+-- the refusal of a token from p to q: a block too many is refused at its first byte, a token that is wrong for its place just behind it
+abbrev pub refused_at : Why → ℕ → ℕ → Refusal
+refused_at w p q = refusal_at w (pick (eqb (why_number w) too_deep) p q)

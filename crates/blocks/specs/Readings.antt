@@ -1,18 +1,18 @@
 -- The tokens of a record, read from a kept place on. Each reading is one step of the automaton that scans a value: it passes a token,
 -- finds it unfinished, or refuses it; a token that is wrong for its place is refused and is not passed. No reading is made at the end of
 -- the bytes. The readings are bounded only so that they are seen to end; the law `read_turn` (proofs/Laws) is all that anything else sees of that.
-use Rattle.std.specs.Prelude.{◌≡◌, ℕ, zero, suc, ◌+◌, ◌<◌, ◌≤◌, List, [], ◌∷◌, ltb, length}
+use Rattle.std.specs.Prelude.{◌≡◌, ℕ, zero, suc, ◌+◌, ◌<◌, ◌≤◌, List, [], ◌∷◌, ltb, length, Result, Ok, Err}
 use Rattle.refusal.specs.Numbers.{too_deep}
 use Rattle.refusal.specs.Paper.{Paper, gives, more, refused, Spot, spot, pick}
-use Rattle.refusal.specs.Meaning.{refusal_meaning}
+use Rattle.refusal.specs.Meaning.{unwhole_meaning}
+use Rattle.refusal.specs.declared.Unwhole.{Unwhole}
 use Rattle.refusal.specs.declared.Format.TheVariants.{Binary}
 use Rattle.token.specs.declared.Kind.{Kind}
 use Rattle.lexer.specs.Lexer.{kind_at}
 use Rattle.automaton.specs.Limit.{most_open}
 use Rattle.automaton.specs.Step.{Step, go, finished, wrong, deep, step}
 use Rattle.kept.specs.declared.Blocks.{Blocks}
-use Rattle.blocks.specs.declared.What.{What}
-use Rattle.blocks.specs.declared.What.TheVariants.{Whole, Unfinished, Refused}
+use Rattle.blocks.specs.declared.Passed.{Passed}
 use Rattle.blocks.specs.declared.Run.{Run}
 use Rattle.kept.specs.Kept.{due_of, blocks_of, blocks_then, no_blocks}
 
@@ -78,16 +78,20 @@ unfoldable pub pass_of : List ℕ → ℕ → Blocks → Reached
 pass_of s p b = pick (ltb most_open b.depth) (reached p 0 b more) (read_from s p b)
 
 -- what the answer of the code means
-abbrev pub what_meaning : What → Paper ℕ
-what_meaning (Whole n) = gives n
-what_meaning Unfinished = more
-what_meaning (Refused r) = refusal_meaning r
+abbrev pub what_meaning : Result ℕ Unwhole → Paper ℕ
+what_meaning (Ok n) = gives n
+what_meaning (Err e) = unwhole_meaning e
 
-abbrev pub run_meaning : Run → Reached
-run_meaning r = reached r.place r.readings r.blocks (what_meaning r.what)
+abbrev pub run_meaning : Run → Blocks → Reached
+run_meaning r b = reached r.place r.readings b (what_meaning r.what)
 
 -- a token that is not whole: the answer is the reader's own, more or its refusal
 abbrev pub not_whole : Paper (Spot Kind) → Paper ℕ → Type 0
 not_whole (gives x) a = Unit {0}
 not_whole more a = a ≡ more
 not_whole (refused n vs) a = a ≡ refused n vs
+
+-- how the readings go on from the n-th, at p, by what came of it and the open blocks then: behind the token, unless the record ends there
+abbrev pub read_then : Onward → ℕ → ℕ → Result Passed Unwhole → Blocks → Reached
+read_then k p n (Ok t) b = pick t.whole (reached t.end n b (gives t.end)) (k t.end b n)
+read_then k p n (Err e) b = reached p n b (unwhole_meaning e)

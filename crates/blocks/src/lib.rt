@@ -2,505 +2,285 @@
 // specs/Readings.antt decides it with the automaton of crate `automaton`. Crate `kept` says how the open blocks are kept between pieces.
 #![tactic(auto)]
 
-ghost use Rattle.std.specs.Prelude.{◌≡◌, ◌≤◌, ◌<◌, length};
+ghost use Rattle.std.specs.Prelude.{◌≡◌, ◌≤◌, ◌<◌, ℕ, length, Ok, Err, OnOk, IfOk};
 ghost use Rattle.lexer.specs.Lexer.{kind_at};
+ghost use Rattle.refusal.specs.Paper.{pick};
+ghost use Rattle.refusal.specs.Meaning.{why_of, unwhole_meaning};
 ghost use Rattle.refusal.specs.declared.Format.TheVariants.{Binary};
 ghost use Rattle.automaton.specs.Limit.{most_open};
-ghost use Rattle.automaton.specs.Step.{after, step};
-ghost use Rattle.token.specs.declared.Kind.TheVariants as kind;
-ghost use Rattle.kept.specs.Kept.{due_of, open_in, around};
-ghost use Rattle.blocks.specs.Moves.{kind_by, value_due, wrong_by, Apt, Moves, Follows, Anywhere, Among, room_for, begins_value};
-ghost use Rattle.blocks.specs.Readings.{pass_of, read_from, run_meaning, what_meaning, not_whole};
-ghost use Rattle.blocks.specs.Stops.{blocks_with, moved_by, Answers, Inside, Halts};
+ghost use Rattle.automaton.specs.Step.{after, opened, step};
+ghost use Rattle.kept.specs.Kept.{due_of, blocks_of};
+ghost use Rattle.blocks.specs.Moves.{kind_by, value_due, wrong_by, turned, turn_of, block_named, kind_byte, due_in, closing, innermost_of, refused_at};
+ghost use Rattle.blocks.specs.Readings.{Onward, on_token, pass_of, run_meaning, not_whole, read_then};
 
 use kept::{Blocks, Due};
-use refusal::Refusal;
-use token::Read;
+use refusal::{Refusal, Unread, Unwhole, Why};
 
-// What a token does to the open blocks.
-#[derive(Clone, Copy)]
-pub enum Move {
-    // It opens a block of this kind.
-    OpenList,
-    OpenMap,
-    OpenAttributes,
-    // It ends the innermost block, and this is due.
-    CloseItem,
-    CloseKey,
-    CloseObject,
-    // The blocks stay open, and the same is due.
-    Stay,
-    // The blocks stay open, and this is due.
-    ToItem,
-    ToKey,
-    ToEquals,
-    ToValue,
-    // The record is whole.
-    Finish,
-    // It is wrong for its place.
-    Wrong,
-    // A block would be one too many.
-    Deep,
-}
-
-// Where a run over tokens comes to.
-#[derive(Clone, Copy)]
-pub enum What {
-    // The record is whole, and ends here.
-    Whole(usize),
-    // The bytes ended before a token or inside one.
-    Unfinished,
-    // A token is refused.
-    Refused(Refusal),
-}
-
-// A run over tokens: the end of the last that was passed, how many readings were made, where it came to, and the open blocks there.
-#[derive(Clone, Copy)]
+// A run over tokens: the end of the last that was passed, how many readings were made, and where the record ends or why it is not whole.
+#[derive(Clone, Copy, Debug, PartialEq, Eq)]
 pub struct Run {
     pub place: usize,
     pub readings: usize,
-    pub what: What,
-    pub blocks: Blocks,
+    pub what: Result<usize, Unwhole>,
 }
 
-// How many blocks are open, and what is due in the innermost.
+// A kind of block.
 #[derive(Clone, Copy)]
-pub struct Inner {
-    pub depth: usize,
-    pub due: Due,
+enum Block {
+    List,
+    Map,
+    Attributes,
 }
 
-// Why a run over tokens stops.
-#[derive(Clone, Copy)]
-pub enum Stop {
-    // The bytes ended.
-    Ended,
-    // No whole token stands there.
-    Unread,
-    // The record is whole.
-    Whole,
-    // The token is wrong for its place.
-    Wrong,
-    // The token opens a block too many.
-    Deep,
-}
-
-// Where a run over tokens stops: the end of the last that was passed, that of the last that was read, how many readings were made,
-// how many blocks are open and what is due there, and why it stops.
-#[derive(Clone, Copy)]
-pub struct Halt {
-    pub place: usize,
-    pub end: usize,
-    pub readings: usize,
-    pub depth: usize,
-    pub due: Due,
-    pub stop: Stop,
-}
-
-// A whole value in the open blocks.
-fn whole(kinds: &[u8; 128], depth: usize) -> Move
-    requires { depth ≤ most_open }
-    ensures { Follows (open_in depth kinds.now) depth (after (open_in depth kinds.now)) result }
-{
-    if depth == 0 {
-        return Move::Finish;
-    }
-    if kinds[depth - 1] == kept::LIST {
-        return Move::ToItem;
-    }
-    Move::ToKey
-}
-
-// A list or a map ends, and is a whole value in the blocks around it.
-fn ended(kinds: &[u8; 128], depth: usize) -> Move
-    requires { (0 < depth) × (depth ≤ most_open) }
-    ensures { Follows (open_in depth kinds.now) depth (after (around (open_in depth kinds.now))) result }
-{
-    let outer = depth - 1;
-    if outer == 0 {
-        return Move::Finish;
-    }
-    if kinds[outer - 1] == kept::LIST {
-        return Move::CloseItem;
-    }
-    Move::CloseKey
-}
-
-// Whether a value is due, with attributes or without.
-fn value_due(due: Due) -> bool
-    ensures { result ≡ value_due (due_of due) }
-{
-    match due {
-        Due::Value | Due::Object | Due::Item => true,
-        Due::Key | Due::Equals => false,
-    }
-}
-
-// `;` stands between the parts of a block.
-fn on_semicolon(due: Due) -> Move
-    ensures { Anywhere due kind.Semicolon result }
-{
-    match due {
-        Due::Item | Due::Key => Move::Stay,
-        Due::Value | Due::Object | Due::Equals => Move::Wrong,
-    }
-}
-
-// `=` stands behind a key.
-fn on_equals(due: Due) -> Move
-    ensures { Anywhere due kind.Equals result }
-{
-    match due {
-        Due::Equals => Move::ToValue,
-        Due::Value | Due::Object | Due::Item | Due::Key => Move::Wrong,
-    }
-}
-
-// A block is opened by this move, unless as many as may be are open.
-fn begun(depth: usize, opening: Move) -> Move
-    ensures { result ≡ room_for depth opening }
-{
-    if depth == kept::MOST_OPEN {
-        return Move::Deep;
-    }
-    opening
-}
-
-// A block is opened by this move where a value is due.
-fn value_begun(depth: usize, due: Due, opening: Move) -> Move
-    ensures { result ≡ begins_value depth (due_of due) opening }
-{
-    if !value_due(due) {
-        return Move::Wrong;
-    }
-    begun(depth, opening)
-}
-
-// `<` begins a value whose attributes are not passed.
-fn on_attributes(depth: usize, due: Due) -> Move
-    requires { depth ≤ most_open }
-    ensures { Among depth due kind.OpenAttributes result }
-{
-    match due {
-        Due::Value | Due::Item => begun(depth, Move::OpenAttributes),
-        Due::Object | Due::Key | Due::Equals => Move::Wrong,
-    }
-}
-
-// `]` ends a list.
-fn on_list_end(kinds: &[u8; 128], depth: usize, due: Due) -> Move
-    requires { depth ≤ most_open }
-    ensures { Moves (open_in depth kinds.now) depth (due_of due) (step (due_of due) (open_in depth kinds.now) kind.CloseList) result }
-{
-    match due {
-        Due::Item => {
-            if depth == 0 {
-                return Move::Wrong;
-            }
-            if kinds[depth - 1] == kept::LIST {
-                return ended(kinds, depth);
-            }
-            Move::Wrong
+impl Block {
+    // The byte that is kept of it.
+    fn byte(self) -> u8
+        ensures { result ≡ kind_byte self }
+    {
+        match self {
+            Block::List => kept::LIST,
+            Block::Map => kept::MAP,
+            Block::Attributes => kept::ATTRIBUTES,
         }
-        Due::Value | Due::Object | Due::Key | Due::Equals => Move::Wrong,
     }
-}
 
-// `}` ends a map.
-fn on_map_end(kinds: &[u8; 128], depth: usize, due: Due) -> Move
-    requires { depth ≤ most_open }
-    ensures { Moves (open_in depth kinds.now) depth (due_of due) (step (due_of due) (open_in depth kinds.now) kind.CloseMap) result }
-{
-    match due {
-        Due::Key => {
-            if depth == 0 {
-                return Move::Wrong;
-            }
-            if kinds[depth - 1] == kept::MAP {
-                return ended(kinds, depth);
-            }
-            Move::Wrong
+    // What is due where it begins, and behind a value in it.
+    fn due(self) -> Due
+        ensures { result ≡ due_in self }
+    {
+        match self {
+            Block::List => Due::Item,
+            Block::Map | Block::Attributes => Due::Key,
         }
-        Due::Value | Due::Object | Due::Item | Due::Equals => Move::Wrong,
     }
 }
 
-// `>` ends an attribute block, and the value behind it is due.
-fn on_attributes_end(kinds: &[u8; 128], depth: usize, due: Due) -> Move
-    requires { depth ≤ most_open }
-    ensures { Moves (open_in depth kinds.now) depth (due_of due) (step (due_of due) (open_in depth kinds.now) kind.CloseAttributes) result }
+// The innermost block, where one is open.
+#[tactic(auto, using(crate::proofs::Ways::innermost_none, crate::proofs::Ways::innermost_some))]
+fn innermost(blocks: &Blocks) -> Option<Block>
+    requires { blocks.now.depth ≤ most_open }
+    ensures { result ≡ innermost_of (blocks_of blocks.now) }
+{
+    let last = blocks.depth.checked_sub(1)?;
+    Some(match blocks.kinds[last] {
+        kept::LIST => Block::List,
+        kept::MAP => Block::Map,
+        _ => Block::Attributes,
+    })
+}
+
+// Why a token is wrong where this is due and it is not that.
+#[tactic(auto, unfolding(refusal::specs::Meaning::why_of))]
+fn wrong(due: Due) -> Why
+    ensures { result ≡ why_of (wrong_by (due_of due)) }
 {
     match due {
-        Due::Key => {
-            if depth == 0 {
-                return Move::Wrong;
-            }
-            let k = kinds[depth - 1];
-            if k == kept::LIST {
-                return Move::Wrong;
-            }
-            if k == kept::MAP {
-                return Move::Wrong;
-            }
-            Move::CloseObject
+        Due::Value | Due::Object | Due::Item => Why::NotValue,
+        Due::Key => Why::NotKey,
+        Due::Equals => Why::NotEquals,
+    }
+}
+
+// Whether a value is due, with attributes or without; where none is, a token that begins one is wrong.
+fn value_due(due: Due) -> Result<(), Why>
+    ensures { result ≡ pick (value_due (due_of due)) (Ok tt) (Err (why_of (wrong_by (due_of due)))) }
+{
+    match due {
+        Due::Value | Due::Object | Due::Item => Ok(()),
+        Due::Key | Due::Equals => Err(wrong(due)),
+    }
+}
+
+// A whole value stands in the open blocks. Whether it is the record.
+#[tactic(auto, using(crate::proofs::Ways::whole_none, crate::proofs::Ways::whole_some, crate::proofs::Ways::none_few))]
+fn whole(blocks: &mut Blocks) -> bool
+    requires { blocks.old.depth ≤ most_open }
+    ensures turn { turned (Ok result) blocks.new ≡ turn_of blocks.old (after (blocks_of blocks.old)) }
+    ensures few { blocks.new.depth ≤ most_open }
+{
+    match innermost(blocks) {
+        Some(block) => {
+            blocks.due = block.due();
+            false
         }
-        Due::Value | Due::Object | Due::Item | Due::Equals => Move::Wrong,
+        None => {
+            *blocks = kept::no_blocks();
+            true
+        }
     }
 }
 
-// A scalar that is no string is a whole value.
-fn on_scalar(kinds: &[u8; 128], depth: usize, due: Due) -> Move
-    requires { depth ≤ most_open }
-    ensures { Moves (open_in depth kinds.now) depth (due_of due) (step (due_of due) (open_in depth kinds.now) kind.Scalar) result }
+// A block opens, unless as many as may be are open.
+#[tactic(auto, using(crate::proofs::Ways::opens_deep, crate::proofs::Ways::opens_room))]
+fn opened(blocks: &mut Blocks, block: Block) -> Result<bool, Why>
+    requires { blocks.old.depth ≤ most_open }
+    ensures turn { turned result blocks.new ≡ turn_of blocks.old (opened (block_named block) (due_of (due_in block)) (blocks_of blocks.old)) }
+    ensures few { blocks.new.depth ≤ most_open }
 {
-    if !value_due(due) {
-        return Move::Wrong;
+    if blocks.depth == kept::MOST_OPEN {
+        return Err(Why::TooDeep);
     }
-    whole(kinds, depth)
+    blocks.kinds[blocks.depth] = block.byte();
+    blocks.depth += 1;
+    blocks.due = block.due();
+    Ok(false)
 }
 
-// A string is a whole value or a key.
-fn on_string(kinds: &[u8; 128], depth: usize, due: Due) -> Move
-    requires { depth ≤ most_open }
-    ensures { Moves (open_in depth kinds.now) depth (due_of due) (step (due_of due) (open_in depth kinds.now) kind.Text) result }
+// A block ends where it is the innermost and another part of it may begin.
+#[tactic(auto, using(crate::proofs::Ways::ending), unfolding(automaton::specs::Step::closed))]
+fn ended(blocks: &mut Blocks, block: Block) -> Result<bool, Why>
+    requires { blocks.old.depth ≤ most_open }
+    ensures turn { turned result blocks.new ≡ turn_of blocks.old (step (due_of blocks.old.due) (blocks_of blocks.old) (closing block)) }
+    ensures few { blocks.new.depth ≤ most_open }
 {
-    match due {
-        Due::Value | Due::Object | Due::Item => whole(kinds, depth),
-        Due::Key => Move::ToEquals,
-        Due::Equals => Move::Wrong,
+    match (block, blocks.due, innermost(blocks)) {
+        (Block::List, Due::Item, Some(Block::List)) | (Block::Map, Due::Key, Some(Block::Map)) => {
+            blocks.depth -= 1;
+            Ok(whole(blocks))
+        }
+        (Block::Attributes, Due::Key, Some(Block::Attributes)) => {
+            blocks.depth -= 1;
+            blocks.due = Due::Object;
+            Ok(false)
+        }
+        (_, due, _) => Err(wrong(due)),
     }
 }
 
-// What the token whose first byte is `b` does to the open blocks, by the byte first: each fits where few parts are due.
-fn decide(kinds: &[u8; 128], depth: usize, due: Due, b: u8) -> Move
-    requires { depth ≤ most_open }
-    ensures { Moves (open_in depth kinds.now) depth (due_of due) (step (due_of due) (open_in depth kinds.now) (kind_by b)) result }
+// What a token does whose first byte is `b`: whether the record is whole behind it, or why it is refused.
+#[tactic(auto, using(crate::proofs::Ways::taking), unfolding(crate::specs::Moves::kind_by))]
+fn take(blocks: &mut Blocks, b: u8) -> Result<bool, Why>
+    requires { blocks.old.depth ≤ most_open }
+    ensures turn { turned result blocks.new ≡ turn_of blocks.old (step (due_of blocks.old.due) (blocks_of blocks.old) (kind_by b)) }
+    ensures few { blocks.new.depth ≤ most_open }
 {
+    let due = blocks.due;
     match b {
-        b';' => on_semicolon(due),
-        b'=' => on_equals(due),
-        b'[' => value_begun(depth, due, Move::OpenList),
-        b']' => on_list_end(kinds, depth, due),
-        b'{' => value_begun(depth, due, Move::OpenMap),
-        b'}' => on_map_end(kinds, depth, due),
-        b'<' => on_attributes(depth, due),
-        b'>' => on_attributes_end(kinds, depth, due),
-        0x01 => on_string(kinds, depth, due),
-        _ => on_scalar(kinds, depth, due),
-    }
-}
-
-// The number of the refusal of a token that is wrong for its place.
-fn wrong_number(due: Due) -> usize
-    ensures { result ≡ wrong_by (due_of due) }
-{
-    match due {
-        Due::Value | Due::Object | Due::Item => refusal::NOT_VALUE,
-        Due::Key => refusal::NOT_KEY,
-        Due::Equals => refusal::NOT_EQUALS,
+        b';' => match due {
+            Due::Item | Due::Key => Ok(false),
+            Due::Value | Due::Object | Due::Equals => Err(wrong(due)),
+        },
+        b'=' => match due {
+            Due::Equals => {
+                blocks.due = Due::Value;
+                Ok(false)
+            }
+            Due::Value | Due::Object | Due::Item | Due::Key => Err(wrong(due)),
+        },
+        b'<' => match due {
+            Due::Value | Due::Item => opened(blocks, Block::Attributes),
+            Due::Object | Due::Key | Due::Equals => Err(wrong(due)),
+        },
+        b'[' => {
+            value_due(due)?;
+            opened(blocks, Block::List)
+        }
+        b'{' => {
+            value_due(due)?;
+            opened(blocks, Block::Map)
+        }
+        b']' => ended(blocks, Block::List),
+        b'}' => ended(blocks, Block::Map),
+        b'>' => ended(blocks, Block::Attributes),
+        0x01 if matches!(due, Due::Key) => {
+            blocks.due = Due::Equals;
+            Ok(false)
+        }
+        _ => {
+            value_due(due)?;
+            Ok(whole(blocks))
+        }
     }
 }
 
 // Why no whole token stands at a place: the bytes ended, or it is refused. The full reader is asked, once in a run at most.
-fn why(input: &[u8], at: usize) -> What
+fn why(input: &[u8], at: usize) -> Unwhole
     requires { at < length input.now }
-    ensures { not_whole (kind_at Binary input.now at) (what_meaning result) }
+    ensures { not_whole (kind_at Binary input.now at) (unwhole_meaning result) }
 {
-    match binary::binary_token(input, at) {
-        Read::Token {
-            token: _,
-            first: _,
-            next: _,
-        } => What::Unfinished,
-        Read::Incomplete => What::Unfinished,
-        Read::Refused { refusal } => What::Refused(refusal),
-        Read::Beyond => What::Unfinished,
+    let Err(unread) = binary::binary_token(input, at) else {
+        return Unwhole::Incomplete;
+    };
+    match unread {
+        Unread::Refused(refusal) => Unwhole::Refused(refusal),
+        Unread::Incomplete | Unread::Beyond => Unwhole::Incomplete,
     }
 }
 
-// The answer where a run over tokens stopped.
-fn what_of(stop: Stop, input: &[u8], place: usize, end: usize, due: Due) -> What
-    requires { Inside input.now stop place }
-    ensures { Answers input.now stop place end due (what_meaning result) }
+// The refusal of the token from `first` to `end`: a block too many is refused at its first byte, a token that is wrong just behind it.
+#[tactic(auto, using(crate::proofs::Laws::other_number))]
+fn refused(why: Why, first: usize, end: usize) -> Refusal
+    ensures { result ≡ refused_at why first end }
 {
-    match stop {
-        Stop::Ended => What::Unfinished,
-        Stop::Unread => why(input, place),
-        Stop::Whole => What::Whole(place),
-        Stop::Wrong => What::Refused(refusal::refusal_of(wrong_number(due), end)),
-        Stop::Deep => What::Refused(Refusal::TooDeep { place }),
+    match why {
+        Why::TooDeep => why.at(first),
+        _ => why.at(end),
     }
 }
 
-// The open blocks behind a token that does this, with the bytes of their kinds.
-fn moved(kinds: &mut [u8; 128], depth: usize, due: Due, way: Move) -> Inner
-    requires { (depth ≤ most_open) × Apt way depth }
-    ensures { blocks_with result.depth result.due kinds.new ≡ moved_by way depth due kinds.old }
+// A token that was passed: where it ends, and whether the record does.
+#[derive(Clone, Copy)]
+struct Passed {
+    end: usize,
+    whole: bool,
+}
+
+// One reading: the token at a place.
+fn read_token(blocks: &mut Blocks, input: &[u8], place: usize) -> Result<Passed, Unwhole>
+    requires few { blocks.old.depth ≤ most_open }
+    requires inside { place < length input.now }
+    ensures reads { (k : Onward) (n : ℕ) → read_then k place n result blocks.new ≡ on_token k place blocks.old n (kind_at Binary input.now place) }
+    ensures ahead { IfOk result (λ t. place < t.end) }
+    ensures few { blocks.new.depth ≤ most_open }
 {
-    match way {
-        Move::OpenList => {
-            kinds[depth] = kept::LIST;
-            Inner {
-                depth: depth + 1,
-                due: Due::Item,
-            }
-        }
-        Move::OpenMap => {
-            kinds[depth] = kept::MAP;
-            Inner {
-                depth: depth + 1,
-                due: Due::Key,
-            }
-        }
-        Move::OpenAttributes => {
-            kinds[depth] = kept::ATTRIBUTES;
-            Inner {
-                depth: depth + 1,
-                due: Due::Key,
-            }
-        }
-        Move::CloseItem => Inner {
-            depth: depth - 1,
-            due: Due::Item,
-        },
-        Move::CloseKey => Inner {
-            depth: depth - 1,
-            due: Due::Key,
-        },
-        Move::CloseObject => Inner {
-            depth: depth - 1,
-            due: Due::Object,
-        },
-        Move::ToItem => Inner {
-            depth,
-            due: Due::Item,
-        },
-        Move::ToKey => Inner {
-            depth,
-            due: Due::Key,
-        },
-        Move::ToEquals => Inner {
-            depth,
-            due: Due::Equals,
-        },
-        Move::ToValue => Inner {
-            depth,
-            due: Due::Value,
-        },
-        Move::Stay | Move::Finish | Move::Wrong | Move::Deep => Inner { depth, due },
+    let Some(end) = binary_ends::token_end(input, place) else {
+        return Err(why(input, place));
+    };
+    match take(blocks, input[place]) {
+        Ok(whole) => Ok(Passed { end, whole }),
+        Err(why) => Err(Unwhole::Refused(refused(why, place, end))),
     }
 }
 
-// The tokens of `input` from `from` on, with `count` blocks open and `first` due, until they stop.
-fn read_tokens(kinds: &mut [u8; 128], count: usize, first: Due, input: &[u8], from: usize) -> Halt
-    requires { count ≤ most_open }
-    ensures { Halts input.now result kinds.new (read_from input.now from (blocks_with count first kinds.old)) }
+// The tokens of `input` from `from` on, until one ends the record, is unfinished or is refused, or the bytes end. The open blocks are then
+// those behind the last that was passed.
+pub fn pass(blocks: &mut Blocks, input: &[u8], from: usize) -> Run
+    ensures { run_meaning result blocks.new ≡ pass_of input.now from blocks.old }
 {
-    let mut depth = count;
-    let mut due = first;
     let mut place = from;
-    let mut readings: usize = 0;
-    while place < input.len() {
-        let end = binary_ends::token_end(input, place);
-        readings += 1;
-        if end == 0 {
-            return Halt {
-                place,
-                end,
-                readings,
-                depth,
-                due,
-                stop: Stop::Unread,
-            };
-        }
-        let b = input[place];
-        let way = decide(kinds, depth, due, b);
-        match way {
-            Move::Finish => {
-                return Halt {
-                    place: end,
-                    end,
-                    readings,
-                    depth,
-                    due,
-                    stop: Stop::Whole,
-                };
-            }
-            Move::Wrong => {
-                return Halt {
-                    place,
-                    end,
-                    readings,
-                    depth,
-                    due,
-                    stop: Stop::Wrong,
-                };
-            }
-            Move::Deep => {
-                return Halt {
-                    place,
-                    end,
-                    readings,
-                    depth,
-                    due,
-                    stop: Stop::Deep,
-                };
-            }
-            _ => {
-                let inner = moved(kinds, depth, due, way);
-                depth = inner.depth;
-                due = inner.due;
-                place = end;
-            }
-        }
-    }
-    Halt {
-        place,
-        end: place,
-        readings,
-        depth,
-        due,
-        stop: Stop::Ended,
-    }
-}
-
-// The tokens of `input` from `from` on, until one ends the record, is unfinished or is refused, or the bytes end.
-pub fn pass(blocks: Blocks, input: &[u8], from: usize) -> Run
-    ensures { run_meaning result ≡ pass_of input.now from blocks }
-{
-    let count = blocks.depth;
-    if kept::MOST_OPEN < count {
+    let mut readings = 0;
+    if kept::MOST_OPEN < blocks.depth {
         return Run {
-            place: from,
-            readings: 0,
-            what: What::Unfinished,
-            blocks,
-        };
-    }
-    let first = blocks.due;
-    let mut kinds = blocks.kinds;
-    let halt = read_tokens(&mut kinds, count, first, input, from);
-    let place = halt.place;
-    let readings = halt.readings;
-    let depth = halt.depth;
-    let due = halt.due;
-    let stop = halt.stop;
-    let what = what_of(stop, input, place, halt.end, due);
-    match stop {
-        Stop::Whole => {
-            let none = kept::no_blocks();
-            Run {
-                place,
-                readings,
-                what,
-                blocks: none,
-            }
-        }
-        Stop::Ended | Stop::Unread | Stop::Wrong | Stop::Deep => Run {
             place,
             readings,
-            what,
-            blocks: Blocks { depth, due, kinds },
-        },
+            what: Err(Unwhole::Incomplete),
+        };
+    }
+    while place < input.len() {
+        readings += 1;
+        match read_token(blocks, input, place) {
+            Ok(Passed { end, whole }) => {
+                place = end;
+                if whole {
+                    return Run {
+                        place,
+                        readings,
+                        what: Ok(place),
+                    };
+                }
+            }
+            Err(unwhole) => {
+                return Run {
+                    place,
+                    readings,
+                    what: Err(unwhole),
+                };
+            }
+        }
+    }
+    Run {
+        place,
+        readings,
+        what: Err(Unwhole::Incomplete),
     }
 }

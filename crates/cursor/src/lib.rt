@@ -19,11 +19,16 @@ pub struct YsonIterator<'a> {
     pub format: Format,
 }
 
-// What looking at the next byte answers.
-#[derive(Clone, Copy)]
-pub enum Peek {
-    // The byte behind blanks and comments, and its place.
-    Byte { byte: u8, place: usize },
+// The byte behind blanks and comments, and its place.
+#[derive(Clone, Copy, Debug, PartialEq, Eq)]
+pub struct Peeked {
+    pub byte: u8,
+    pub place: usize,
+}
+
+// Why there is no next byte.
+#[derive(Clone, Copy, Debug, PartialEq, Eq)]
+pub enum NoByte {
     // The bytes ended before one.
     Incomplete,
     // 26: the place lies beyond the slice.
@@ -53,11 +58,7 @@ impl<'a> YsonIterator<'a> {
     pub fn moved(self, pos: usize) -> YsonIterator<'a>
         ensures { (result.input ≡ self.entry.input) × (result.pos ≡ pos) × (result.format ≡ self.entry.format) }
     {
-        YsonIterator {
-            input: self.input,
-            pos,
-            format: self.format,
-        }
+        YsonIterator { pos, ..self }
     }
 
     // The token at the place of the cursor, and the place after it, which `moved` takes.
@@ -68,10 +69,21 @@ impl<'a> YsonIterator<'a> {
     }
 
     // The next byte that is not ignored.
-    pub fn peek_byte(self) -> Peek
+    pub fn peek_byte(self) -> Result<Peeked, NoByte>
         ensures { peek_meaning result ≡ byte_at self.entry.format self.entry.input.now self.entry.pos }
     {
-        first_byte(self.input, self.pos, self.format)
+        let YsonIterator { input, pos, format } = self;
+        if input.len() < pos {
+            return Err(NoByte::Beyond);
+        }
+        let place = lexer::skip(input, pos, format);
+        if place < input.len() {
+            return Ok(Peeked {
+                byte: input[place],
+                place,
+            });
+        }
+        Err(NoByte::Incomplete)
     }
 
     // The bytes of the string at the place of the cursor, into `out`. Only an accepted call writes.
@@ -81,21 +93,4 @@ impl<'a> YsonIterator<'a> {
     {
         lexer::string_bytes(self.input, self.pos, self.format, out)
     }
-}
-
-// The first byte from a place on that is not ignored.
-fn first_byte(input: &[u8], at: usize, format: Format) -> Peek
-    ensures { peek_meaning result ≡ byte_at format input.now at }
-{
-    if input.len() < at {
-        return Peek::Beyond;
-    }
-    let place = lexer::skip(input, at, format);
-    if place < input.len() {
-        return Peek::Byte {
-            byte: input[place],
-            place,
-        };
-    }
-    Peek::Incomplete
 }

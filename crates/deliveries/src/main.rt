@@ -4,230 +4,103 @@
 // Prints how many records were handed out and how many readings that took, over all rounds; bench/ takes the time from outside.
 #![tactic(auto)]
 
-ghost use Rattle.std.specs.Prelude.{◌+◌, ◌<◌, ◌≤◌, length};
+ghost use Rattle.std.specs.Prelude.{◌≤◌, length};
 
 use reader::{Found, State, Taking};
-use std::io::{Read, Stdin, Stdout};
+use std::io::{Read, Stdin};
+use std::ops::ControlFlow;
 
-// Where a round stands.
+// Where the rounds stand: the stream's buffer and state, the records handed out and the readings that took.
 #[derive(Drop)]
-struct Round {
+struct Rounds<'a> {
+    buf: &'a mut [u8],
     state: State,
     records: u64,
     readings: u64,
-    // Next wants more.
-    on: bool,
 }
 
-// Next, until it wants more or stops.
-fn drain(buf: &[u8], before: State, known: u64, read: u64) -> Round {
-    let mut state = before;
-    let mut records = known;
-    let mut readings = read;
-    let mut turns = u64::MAX;
-    while turns > 0 {
-        turns -= 1;
-        let t = state.next(buf);
-        state = t.state;
-        readings = std::num::wrapping_add_u64(readings, t.readings as u64);
-        let answer = t.answer;
-        match answer {
-            Found::Record {
-                place: _,
-                length: _,
-                offset: _,
-                mark: _,
-            } => {
-                records = std::num::wrapping_add_u64(records, 1);
-            }
-            Found::More => {
-                return Round {
-                    state,
-                    records,
-                    readings,
-                    on: true,
-                };
-            }
-            _ => {
-                return Round {
-                    state,
-                    records,
-                    readings,
-                    on: false,
-                };
+impl Rounds<'_> {
+    // Next, until it wants more, where the stream goes on, or stops.
+    fn drain(&mut self) -> ControlFlow<()> {
+        let mut state = self.state;
+        for _ in 0..u64::MAX {
+            let next = state.next(self.buf);
+            state = next.state;
+            self.readings = self.readings.wrapping_add(next.readings as u64);
+            match next.answer {
+                Found::Record { .. } => self.records = self.records.wrapping_add(1),
+                Found::More => {
+                    self.state = state;
+                    return ControlFlow::Continue(());
+                }
+                _ => break,
             }
         }
+        ControlFlow::Break(())
     }
-    Round {
-        state,
-        records,
-        readings,
-        on: false,
-    }
-}
 
-fn least(a: usize, b: usize) -> usize
-    ensures { result ≤ b }
-{
-    if a < b { a } else { b }
-}
-
-// What of a piece was taken.
-#[derive(Drop)]
-struct Part {
-    state: State,
-    count: usize,
-}
-
-// A piece of at most `size` bytes from `from` on, offered.
-fn offered(buf: &mut [u8], stream: &[u8], from: usize, size: usize, before: State) -> Part
-    requires { from ≤ length stream.now }
-    ensures { from + result.count ≤ length stream.now }
-{
-    let left = least(size, stream.len() - from);
-    let to = from + left;
-    let t = before.offer(buf, &stream[from..to]);
-    let state = t.state;
-    let answer = t.answer;
-    match answer {
-        Taking::Taken { count } => Part {
-            state,
-            count: least(count, left),
-        },
-        _ => Part { state, count: 0 },
-    }
-}
-
-// The bytes once, in pieces.
-fn passed(buf: &mut [u8], stream: &[u8], size: usize, before: Round) -> Round {
-    let mut r = before;
-    let mut from = 0;
-    while from < stream.len() {
-        let kept = r.state;
-        let p = offered(buf, stream, from, size, kept);
-        let state = p.state;
-        let count = p.count;
-        if count == 0 {
-            return Round {
-                state,
-                records: r.records,
-                readings: r.readings,
-                on: false,
-            };
+    // The bytes once, in pieces of at most `size` bytes.
+    fn pass(&mut self, stream: &[u8], size: usize) -> ControlFlow<()> {
+        let mut rest = stream;
+        while !rest.is_empty() {
+            let offered = self.state.offer(self.buf, &rest[..size.min(rest.len())]);
+            self.state = offered.state;
+            match offered.answer {
+                Taking::Taken { count } if count > 0 => rest = &rest[count.min(rest.len())..],
+                _ => return ControlFlow::Break(()),
+            }
+            self.drain()?;
         }
-        from += count;
-        r = drain(buf, state, r.records, r.readings);
-        if !r.on {
-            return r;
+        ControlFlow::Continue(())
+    }
+
+    // One stream: the bytes so many times, and its end.
+    fn once(&mut self, stream: &[u8], size: usize, times: u32) -> ControlFlow<()> {
+        self.state = reader::open(0, self.buf).state;
+        for _ in 0..times {
+            self.pass(stream, size)?;
         }
-    }
-    r
-}
-
-// One stream: the bytes so many times, and its end.
-fn once(
-    buf: &mut [u8],
-    stream: &[u8],
-    size: usize,
-    times: u64,
-    records: u64,
-    readings: u64,
-) -> Round {
-    let opened = reader::open(0, buf);
-    let first = opened.state;
-    let mut r = Round {
-        state: first,
-        records,
-        readings,
-        on: true,
-    };
-    let mut turns = times;
-    while turns > 0 {
-        turns -= 1;
-        r = passed(buf, stream, size, r);
-        if !r.on {
-            return r;
-        }
-    }
-    let last = r.state;
-    let t = last.close(buf);
-    let shut = t.state;
-    drain(buf, shut, r.records, r.readings)
-}
-
-// What the rounds counted.
-#[derive(Drop)]
-struct Counts {
-    records: u64,
-    readings: u64,
-}
-
-fn rounds(buf: &mut [u8], stream: &[u8], size: usize, count: u64, times: u64) -> Counts {
-    let mut records: u64 = 0;
-    let mut readings: u64 = 0;
-    let mut turns = count;
-    while turns > 0 {
-        let r = once(buf, stream, size, times, records, readings);
-        records = r.records;
-        readings = r.readings;
-        turns -= 1;
-    }
-    Counts { records, readings }
-}
-
-fn wide(x: u8) -> u64
-    ensures { result ≤ 255 }
-{
-    x as u64
-}
-
-// Four bytes as one number, lowest first.
-fn little4(a: u8, b: u8, c: u8, d: u8) -> u64
-    ensures { result ≤ 4294967295 }
-{
-    wide(a) + wide(b) * 0x100 + wide(c) * 0x1_0000 + wide(d) * 0x100_0000
-}
-
-// One reading of the input: how many bytes it put at the front, none at the input's end and where it cannot be read.
-fn read_some(mut stdin: Stdin, bytes: &mut [u8]) -> usize
-    ensures { result ≤ length bytes.new }
-{
-    match stdin.read(bytes) {
-        Ok(count) => count,
-        Err(_) => 0,
+        self.state = self.state.close(self.buf).state;
+        self.drain()
     }
 }
 
 // Reads until the bytes are full or no more come, and answers how many did.
-fn read_full(stdin: Stdin, bytes: &mut [u8]) -> usize
+fn read_full(mut stdin: Stdin, bytes: &mut [u8]) -> usize
     ensures { result ≤ length bytes.new }
 {
     let mut done = 0;
-    while done < bytes.len() {
-        let count = read_some(stdin, &mut bytes[done..]);
-        if count == 0 {
-            return done;
-        }
+    while let Ok(count @ 1..) = stdin.read(&mut bytes[done..]) {
         done += count;
     }
     done
 }
 
-// `records RECORDS readings READINGS`. What cannot be written is told nowhere.
-fn say(stdout: Stdout, c: Counts) {
-    let _ = println!(stdout; "records {} readings {}", c.records, c.readings);
+// A number of four bytes, lowest first, of which those that do not come are zeros.
+fn read_number(stdin: Stdin) -> u32 {
+    let mut bytes = [0; 4];
+    read_full(stdin, &mut bytes);
+    u32::from_le_bytes(bytes)
 }
 
 fn run(rt: HostRuntime, buf: &mut [u8], stream: &mut [u8]) {
     let stdin = rt.stdin();
-    let mut head = [0u8; 12];
-    read_full(stdin, &mut head);
-    let size = little4(head[0], head[1], head[2], head[3]);
-    let count = little4(head[4], head[5], head[6], head[7]);
-    let times = little4(head[8], head[9], head[10], head[11]);
+    let size = read_number(stdin);
+    let count = read_number(stdin);
+    let times = read_number(stdin);
     let n = read_full(stdin, stream);
-    let c = rounds(buf, &stream[..n], size as usize, count, times);
-    say(rt.stdout(), c);
+    let state = reader::open(0, buf).state;
+    let mut rounds = Rounds {
+        buf,
+        state,
+        records: 0,
+        readings: 0,
+    };
+    for _ in 0..count {
+        let _ = rounds.once(&stream[..n], size as usize, times);
+    }
+    // What cannot be written is told nowhere.
+    let _ = println!(rt; "records {} readings {}", rounds.records, rounds.readings);
 }
 
 fn main(rt: HostRuntime) {

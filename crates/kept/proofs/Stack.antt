@@ -1,21 +1,25 @@
 -- The open blocks and their bytes. Assumes nothing.
-use mathlib.Core.Path.{◌≡◌, refl, ap, ◌∙◌}
-use mathlib.Core.Bool.{Bool, true, false, ◌&&◌}
+use mathlib.Core.Path.{◌≡◌, refl, sym, ap, ap₂, ◌∙◌}
+use mathlib.Core.Bool.{Bool, true, false, not, ◌&&◌}
 use mathlib.Core.List.{List, [], ◌∷◌}
 use Prim.Native.Nat.{ℕ, zero, suc, ◌+◌, ◌-◌, ◌≤◌, ◌<◌}
 use native.Mathlib.Omega.{arith}
-use lib.Dec.{eqb}
-use lib.ListN.{length, get_or, set}
-use borrow.Author.Tests.{ne_eqb, lt-ltb, le-ltb, le-leb, lt-leb}
+use lib.Dec.{eqb, eqb-suc-zero}
+use native.Mathlib.Numerals.{add-one}
+use lib.ListN.{length, get_or, set, take}
+use Rattle.std.specs.List.{list_all}
+use Rattle.std.proofs.lemmas.List.{length-take-le, get_or-take}
+use Rattle.std.proofs.lemmas.List.Folds.{list_all_more}
+use Rattle.std.proofs.Math.Bool.{and_comm}
+use borrow.Author.Tests.{ne_eqb, lt-ltb, le-ltb, le-leb}
 use Rattle.refusal.specs.Numbers.{not_value, not_key}
 use Rattle.refusal.specs.Paper.{pick}
 use Rattle.automaton.specs.Limit.{most_open}
 use Rattle.automaton.specs.Step.{Block, list, map, attributes, go, wrong, key, after, end_list, end_map}
-use Rattle.automaton.specs.Step as automaton
 use Rattle.kept.specs.declared.Blocks.{Blocks}
 use Rattle.kept.specs.declared.Due.{Due}
 use Rattle.kept.specs.declared.Due.TheVariants.{Value, Object, Item, Key, Equals}
-use Rattle.kept.specs.Kept.{block_of, byte_of, open_in, around, due_of, kept_due, innermost, kinds_then, blocks_then, kind_known, kinds_known, takes, due_fits, blocks_fit}
+use Rattle.kept.specs.Kept.{block_of, byte_of, open_in, around, due_of, kept_due, innermost, kinds_then, blocks_then, kind_known, kinds_known, in_list, in_pairs, due_fits, blocks_fit}
 
 -- ---- the stack
 
@@ -85,65 +89,45 @@ map_other k h K = rw (ne_eqb k 2 h) (by (eqb k 1))
     by true = refl
     by false = refl
 
--- what no list takes
-module _ (k : ℕ) (h : k ≡ 1 → ⊥) (K : List Block) where
-  other_takes : (d : automaton.Due) (x : Bool) → takes (map ∷ K) d ≡ x → takes (attributes ∷ K) d ≡ x → takes (block_of k ∷ K) d ≡ x
-  unfolding block_of
-  other_takes d x e f = rw (ne_eqb k 1 h) (by (eqb k 2))
-    where
-      by : (q : Bool) → takes (pick q map attributes ∷ K) d ≡ x
-      by true = e
-      by false = f
+-- the innermost block is a list by its byte, and where it is none it takes keys
+pub in_list_is : (ks : List ℕ) (n : ℕ) → in_list (open_in n ks) ≡ (not (eqb n 0) && eqb (get_or ks (n - 1) 0) 1)
+unfolding open_in block_of
+in_list_is ks zero = refl
+in_list_is ks (suc n) = let e : suc n - 1 ≡ n = omega arith in rw (e, eqb-suc-zero n) (by (eqb (get_or ks n 0) 1) (eqb (get_or ks n 0) 2))
+  where
+    by : (p q : Bool) → in_list (pick p list (pick q map attributes) ∷ open_in n ks) ≡ p
+    by true q = refl
+    by false true = refl
+    by false false = refl
 
-pub takes_none : (ks : List ℕ) (n : ℕ) → n ≡ 0 → (d : Due) → takes (open_in n ks) (due_of d) ≡ takes [] (due_of d)
-takes_none ks n h d = ap (λ (K : List Block). takes K (due_of d)) (open_none ks n h)
+pub in_pairs_is : (ks : List ℕ) (n : ℕ) → in_pairs (open_in n ks) ≡ (not (eqb n 0) && not (in_list (open_in n ks)))
+unfolding open_in block_of
+in_pairs_is ks zero = refl
+in_pairs_is ks (suc n) = rw (eqb-suc-zero n) (by (eqb (get_or ks n 0) 1) (eqb (get_or ks n 0) 2))
+  where
+    by : (p q : Bool) → in_pairs (pick p list (pick q map attributes) ∷ open_in n ks) ≡ not (in_list (pick p list (pick q map attributes) ∷ open_in n ks))
+    by true q = refl
+    by false true = refl
+    by false false = refl
 
-pub takes_list : (ks : List ℕ) (n : ℕ) → (n ≡ 0 → ⊥) → get_or ks (n - 1) 0 ≡ 1 → (d : Due) → takes (open_in n ks) (due_of d) ≡ takes (list ∷ open_in (n - 1) ks) (due_of d)
-takes_list ks n h g d = ap (λ (K : List Block). takes K (due_of d)) (on_list ks n h g)
+-- the same bytes are the same blocks
+open_same : (ks ls : List ℕ) (n : ℕ) → ((i : ℕ) → i < n → get_or ks i 0 ≡ get_or ls i 0) → open_in n ks ≡ open_in n ls
+unfolding open_in
+open_same ks ls zero h = refl
+open_same ks ls (suc n) h = ap₂ (λ (k : ℕ) (K : List Block). block_of k ∷ K) (h n (omega arith)) (open_same ks ls n (λ i l. h i (omega arith)))
 
-pub takes_other : (ks : List ℕ) (n : ℕ) → (n ≡ 0 → ⊥) → (get_or ks (n - 1) 0 ≡ 1 → ⊥) → (d : Due) (x : Bool) → takes (map ∷ open_in (n - 1) ks) (due_of d) ≡ x → takes (attributes ∷ open_in (n - 1) ks) (due_of d) ≡ x → takes (open_in n ks) (due_of d) ≡ x
-takes_other ks n h g d x a b = ap (λ (K : List Block). takes K (due_of d)) (open_some ks n h) ∙ other_takes _ g (open_in (n - 1) ks) (due_of d) x a b
+-- as many bytes as blocks are open hold them all
+pub open_taken : (ks : List ℕ) (n : ℕ) → n ≤ length ks → open_in (length (take n ks)) (take n ks) ≡ open_in n ks
+open_taken ks n h = rw length-take-le (open_same (take n ks) ks n (λ i l. get_or-take n ks i 0 l))
 
 -- ---- known kinds
 
--- by the code's tests
-kind_none : (k : ℕ) → k ≡ 0 → kind_known k ≡ false
-unfolding kind_known
-kind_none k e = ap kind_known e
-
-kind_above : (k : ℕ) → 3 < k → kind_known k ≡ false
-unfolding kind_known
-kind_above k h = rw (ne_eqb k 1 (λ e. omega arith), ne_eqb k 2 (λ e. omega arith), ne_eqb k 3 (λ e. omega arith)) refl
-
-kind_there : (k : ℕ) → (k ≡ 0 → ⊥) → k ≤ 3 → kind_known k ≡ true
-unfolding kind_known
-kind_there zero h g = absurd (h refl)
-kind_there (suc zero) h g = refl
-kind_there (suc (suc zero)) h g = refl
-kind_there (suc (suc (suc zero))) h g = refl
-kind_there (suc (suc (suc (suc k)))) h g = absurd (omega arith)
-
-known_turn : (ks : List ℕ) (n : ℕ) → 0 < n → kinds_known n ks ≡ (kind_known (get_or ks (n - 1) 0) && kinds_known (n - 1) ks)
+-- those of the open blocks alone
+pub known_all : (ks : List ℕ) (n : ℕ) → n ≤ length ks → list_all kind_known (take n ks) ≡ kinds_known n ks
 unfolding kinds_known
-known_turn ks zero h = absurd (omega arith)
-known_turn ks (suc n) h = let e : suc n - 1 ≡ n = omega arith in rw e refl
-
-pub known_end : (ks : List ℕ) (n : ℕ) → n ≡ 0 → kinds_known n ks ≡ true
-unfolding kinds_known
-known_end ks n e = ap (λ (m : ℕ). kinds_known m ks) e
-
-module _ (ks : List ℕ) (n : ℕ) (h : 0 < n) where
-  by_kind : (t : Bool) → kind_known (get_or ks (n - 1) 0) ≡ t → kinds_known n ks ≡ (t && kinds_known (n - 1) ks)
-  by_kind t e = known_turn ks n h ∙ ap (λ (t : Bool). t && kinds_known (n - 1) ks) e
-
-  pub known_none : get_or ks (n - 1) 0 ≡ 0 → kinds_known n ks ≡ false
-  known_none e = by_kind false (kind_none _ e)
-
-  pub known_above : 3 < get_or ks (n - 1) 0 → kinds_known n ks ≡ false
-  known_above g = by_kind false (kind_above _ g)
-
-  pub known_there : (get_or ks (n - 1) 0 ≡ 0 → ⊥) → get_or ks (n - 1) 0 ≤ 3 → kinds_known n ks ≡ kinds_known (n - 1) ks
-  known_there e g = by_kind true (kind_there _ e g)
+known_all ks zero h = refl
+known_all ks (suc n) h =
+    ap (λ (m : ℕ). list_all kind_known (take m ks)) (sym (add-one n)) ∙ list_all_more kind_known ks n 0 h ∙ rw (known_all ks n (omega arith)) (and_comm (kinds_known n ks) (kind_known (get_or ks n 0)))
 
 -- the kind of a block is known, and so are those of fewer blocks
 pub known_byte : (x : Block) → kind_known (byte_of x) ≡ true
@@ -158,30 +142,14 @@ known_less ks n e = by (kind_known (get_or ks n 0)) e
   where
     by : (t : Bool) → t && kinds_known n ks ≡ true → kinds_known n ks ≡ true
     by true e = e
-    by false e = let z : ◌≡◌ {A = ℕ} 0 1 = cc in absurd (omega arith)
+    by false e = cc
 
--- ---- 28's tests of the blocks, one by one
+-- ---- 28's tests of the blocks
 
-module _ (b : Blocks) (passed : ℕ) where
-  pub no_depth : most_open < b.depth → blocks_fit b passed ≡ false
+module _ (b : Blocks) (passed : ℕ) (i : b.depth ≤ most_open) (j : b.depth ≤ passed) where
+  pub by_due : kinds_known b.depth b.kinds ≡ true → blocks_fit b passed ≡ due_fits b
   unfolding blocks_fit
-  no_depth h = rw (lt-leb b.depth most_open h) refl
-
-  module _ (i : b.depth ≤ most_open) where
-    pub no_depth_passed : passed < b.depth → blocks_fit b passed ≡ false
-    unfolding blocks_fit
-    no_depth_passed h = rw (le-leb b.depth most_open i, lt-leb b.depth passed h) refl
-
-    module _ (j : b.depth ≤ passed) where
-      last : blocks_fit b passed ≡ (kinds_known b.depth b.kinds && due_fits b)
-      unfolding blocks_fit
-      last = rw (le-leb b.depth most_open i, le-leb b.depth passed j) refl
-
-      pub no_kinds : kinds_known b.depth b.kinds ≡ false → blocks_fit b passed ≡ false
-      no_kinds h = last ∙ ap (λ (t : Bool). t && due_fits b) h
-
-      pub by_due : kinds_known b.depth b.kinds ≡ true → blocks_fit b passed ≡ due_fits b
-      by_due h = last ∙ ap (λ (t : Bool). t && due_fits b) h
+  by_due h = rw (le-leb b.depth most_open i, le-leb b.depth passed j, h) refl
 
 -- ---- what a token leaves
 

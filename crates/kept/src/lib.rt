@@ -2,9 +2,9 @@
 // bytes: refusal 28's tests of them. specs/Kept.antt says what the bytes mean.
 #![tactic(auto)]
 
-ghost use Rattle.std.specs.Prelude.{◌≡◌, ◌≤◌};
-ghost use Rattle.automaton.specs.Limit.{most_open};
-ghost use Rattle.kept.specs.Kept.{due_of, open_in, no_blocks, kinds_known, takes, blocks_fit};
+ghost use Rattle.std.specs.Prelude.{◌≡◌, length};
+ghost use Rattle.std.specs.List.{list_all};
+ghost use Rattle.kept.specs.Kept.{due_of, open_in, no_blocks, kind_known, in_list, takes, blocks_fit};
 
 // How many blocks may be open at once.
 pub const MOST_OPEN: usize = 128;
@@ -32,81 +32,63 @@ pub enum Due {
 }
 
 // The open blocks: how many, what is due in the innermost, and a byte for the kind of each, the outermost first.
+// Kept: a depth and bytes, not kinds of an enum, since 28's tests (`blocks_fit`) speak of any depth and any byte that a caller hands back.
 #[derive(Clone, Copy)]
 pub struct Blocks {
     pub depth: usize,
     pub due: Due,
-    pub kinds: [u8; 128],
+    pub kinds: [u8; MOST_OPEN],
 }
 
 // No block is open, and a value is due.
+#[tactic(auto, unfolding(crate::specs::Kept::no_blocks))]
 pub fn no_blocks() -> Blocks
     ensures { result ≡ no_blocks }
 {
     Blocks {
         depth: 0,
         due: Due::Value,
-        kinds: [0u8; 128],
+        kinds: [0; MOST_OPEN],
     }
 }
 
-// Whether each open block has a kind that there is.
-fn kinds_known(kinds: &[u8; 128], depth: usize) -> bool
-    requires { depth ≤ most_open }
-    ensures { result ≡ kinds_known depth kinds.now }
+// Whether each of the open blocks has a kind that there is.
+#[tactic(auto, unfolding(crate::specs::Kept::kind_known))]
+fn kinds_known(kinds: &[u8]) -> bool
+    ensures { result ≡ list_all kind_known kinds.now }
 {
-    let mut i = depth;
-    while 0 < i {
-        i -= 1;
-        let k = kinds[i];
-        if k == 0 {
-            return false;
-        }
-        if ATTRIBUTES < k {
-            return false;
-        }
-    }
-    true
+    kinds.iter().all(|k| matches!(*k, LIST | MAP | ATTRIBUTES))
 }
 
-// Whether the innermost block, or none, takes the part that is due.
-fn due_fits(kinds: &[u8; 128], depth: usize, due: Due) -> bool
-    requires { depth ≤ most_open }
-    ensures { result ≡ takes (open_in depth kinds.now) (due_of due) }
+// Whether the innermost of the open blocks is a list.
+#[tactic(auto, using(crate::proofs::Stack::in_list_is))]
+fn in_list(kinds: &[u8]) -> bool
+    ensures { result ≡ in_list (open_in (length kinds.now) kinds.now) }
 {
-    if depth == 0 {
-        return match due {
-            Due::Value | Due::Object => true,
-            Due::Item | Due::Key | Due::Equals => false,
-        };
-    }
-    if kinds[depth - 1] == LIST {
-        return match due {
-            Due::Object | Due::Item => true,
-            Due::Value | Due::Key | Due::Equals => false,
-        };
-    }
+    matches!(kinds, [.., LIST])
+}
+
+// Whether the innermost of the open blocks, or none, takes the part that is due.
+#[tactic(auto, using(crate::proofs::Stack::in_pairs_is), unfolding(crate::specs::Kept::takes))]
+fn due_fits(kinds: &[u8], due: Due) -> bool
+    ensures { result ≡ takes (open_in (length kinds.now) kinds.now) (due_of due) }
+{
     match due {
-        Due::Value | Due::Object | Due::Key | Due::Equals => true,
-        Due::Item => false,
+        Due::Value => !in_list(kinds),
+        Due::Object => true,
+        Due::Item => in_list(kinds),
+        Due::Key | Due::Equals => !kinds.is_empty() && !in_list(kinds),
     }
 }
 
 // Whether these blocks can be open behind `passed` bytes of a record.
+#[tactic(auto, using(crate::proofs::Stack::known_all, crate::proofs::Stack::open_taken), unfolding(crate::specs::Kept::blocks_fit))]
 pub fn blocks_fit(blocks: Blocks, passed: usize) -> bool
     ensures { result ≡ blocks_fit blocks passed }
 {
-    let depth = blocks.depth;
-    let due = blocks.due;
-    let kinds = blocks.kinds;
-    if MOST_OPEN < depth {
-        return false;
-    }
-    if passed < depth {
-        return false;
-    }
-    if !kinds_known(&kinds, depth) {
-        return false;
-    }
-    due_fits(&kinds, depth, due)
+    let Blocks { depth, due, kinds } = blocks;
+    depth <= MOST_OPEN
+        && depth <= passed
+        && kinds_known(&kinds[..depth])
+        && due_fits(&kinds[..depth], due)
 }

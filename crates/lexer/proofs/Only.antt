@@ -16,8 +16,7 @@ use Rattle.token.specs.declared.Token.{Token}
 use Rattle.token.specs.declared.Token.TheVariants.{BeginAttributes, EndAttributes, BeginList, EndList, BeginMap, EndMap, String, Int64, Uint64, Double, Boolean, Entity, KeyValueSeparator, ItemSeparator}
 use Rattle.token.specs.declared.Kind.{Kind}
 use Rattle.token.specs.declared.Kind.TheVariants.{Text, Scalar, OpenList, CloseList, OpenMap, CloseMap, OpenAttributes, CloseAttributes, Equals, Semicolon}
-use Rattle.token.specs.declared.Mark.TheVariants.{Is, Not}
-use Rattle.token.specs.declared.Mark as m
+use Rattle.std.specs.Prelude.{Option, Some, None}
 use Rattle.token.specs.Meaning.{kind_of, kinds_of}
 use Rattle.token.specs.Marks.{mark_of, of_mark}
 use Rattle.token.proofs.Ends.{holds, All}
@@ -103,14 +102,14 @@ all_plainly k z (refused n vs) f = tt
 -- ---- the marks themselves
 
 module _ (b₀ at : ℕ) where
-  one : (x : ℕ) (t : Token) (r : m.Mark) → x ≡ byte_of (kind_of t) → Only b₀ (of_mark at r) → (q : Bool) → eqb b₀ x ≡ q → Only b₀ (of_mark at (pick q (Is t) r))
+  one : (x : ℕ) (t : Token) (r : Option Token) → x ≡ byte_of (kind_of t) → Only b₀ (of_mark at r) → (q : Bool) → eqb b₀ x ≡ q → Only b₀ (of_mark at (pick q (Some t) r))
   one x t r y f true e =
       λ b k a n m g.
       let z : kind_of t ≡ k = cc in
       eqb-true b₀ x e ∙ y ∙ ap byte_of z ∙ byte_of_lem m
   one x t r y f false e = f
 
-  none : Only b₀ (of_mark at Not)
+  none : Only b₀ (of_mark at None)
   none b k a n m e = let z : ◌≡◌ {A = ℕ} 0 1 = cc in absurd (omega arith)
 
   pub marks_only : Only b₀ (of_mark at (mark_of b₀))

@@ -42,8 +42,8 @@ pub fn skip(input: &[u8], at: usize, format: Format) -> usize
     }
 }
 
-// The place after the string at a place; 0 where no whole string stands there.
-pub fn string_end(input: &[u8], at: usize, format: Format) -> usize
+// The place after the string at a place, where a whole one stands.
+pub fn string_end(input: &[u8], at: usize, format: Format) -> Option<usize>
     ensures { result ≡ string_end (kind_at format input.now at) }
 {
     match format {
@@ -52,8 +52,8 @@ pub fn string_end(input: &[u8], at: usize, format: Format) -> usize
     }
 }
 
-// The place after the string or other scalar at a place; 0 where no whole one stands there.
-pub fn scalar_end(input: &[u8], at: usize, format: Format) -> usize
+// The place after the string or other scalar at a place, where a whole one stands.
+pub fn scalar_end(input: &[u8], at: usize, format: Format) -> Option<usize>
     ensures { result ≡ scalar_end (kind_at format input.now at) }
 {
     match format {

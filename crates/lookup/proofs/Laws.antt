@@ -9,7 +9,9 @@ use Rattle.refusal.specs.Numbers.{beyond_slice}
 use Rattle.refusal.specs.Paper.{Paper, gives, more, refused, Spot, spot}
 use Rattle.refusal.specs.declared.Format.{Format}
 use Rattle.token.specs.declared.Token.{Token}
-use Rattle.token.specs.declared.Read.{Read}
+use Rattle.std.specs.Prelude.{Result}
+use Rattle.refusal.specs.declared.Unread.{Unread}
+use Rattle.token.specs.declared.Placed.{Placed}
 use Rattle.token.specs.Meaning.{read_meaning, kinds_of}
 use Rattle.token.proofs.Sound.{Sound}
 use Rattle.lexer.specs.Lexer.{token_from, token_at, kind_at, skip_of}
@@ -28,7 +30,7 @@ module _ (f : Format) (s : List ℕ) (at : ℕ) where
   within h = rw (le-ltb (length s) at h)
 
   -- so an answer whose case is known says what stands there
-  pub read_is : (r r' : Read) → at ≤ length s → read_meaning r ≡ token_at f s at → r ≡ r' → token_from f s at ≡ read_meaning r'
+  pub read_is : (r r' : Result Placed Unread) → at ≤ length s → read_meaning r ≡ token_at f s at → r ≡ r' → token_from f s at ≡ read_meaning r'
   read_is r r' h e p = sym (within h) ∙ (sym e ∙ ap read_meaning p)
 
   -- a token takes a byte at least, and ends in the bytes

@@ -1,22 +1,26 @@
 -- The tokens of some bytes, counted from the first byte on. The steps are counted only so that the walk is seen to end; the law
 -- `count_unfolds` (proofs/Laws) is all that anything else sees of that.
-use Rattle.std.specs.Prelude.{ℕ, zero, suc, ◌+◌, List, length}
+use Rattle.std.specs.Prelude.{ℕ, zero, suc, ◌+◌, List, length, Option, Some, None}
 use Rattle.refusal.specs.Paper.{Paper, gives, more, refused, Spot, spot}
 use Rattle.refusal.specs.Meaning.{refusal_meaning}
 use Rattle.refusal.specs.declared.Format.{Format}
+use Rattle.refusal.specs.declared.Refusal.{Refusal}
 use Rattle.token.specs.declared.Token.{Token}
 use Rattle.lexer.specs.Lexer.{token_from}
 use Rattle.lookup.specs.declared.Count.{Count}
-use Rattle.lookup.specs.declared.Count.TheVariants.{Tokens, Refused}
 
 -- a count: so many tokens, the place after the last, and why no further one stands there (more bytes are needed, or a refusal)
 pub data Counted : Type 0 where
   counted : ℕ → ℕ → Paper Token → Counted
 
+-- why no further token stands there
+abbrev pub no_further : Option Refusal → Paper Token
+no_further None = more
+no_further (Some r) = refusal_meaning r
+
 -- what an answer about a count means
 abbrev pub count_meaning : Count → Counted
-count_meaning (Tokens count end) = counted count end more
-count_meaning (Refused count end r) = counted count end (refusal_meaning r)
+count_meaning c = counted c.count c.end (no_further c.refusal)
 
 -- behind a token the count goes on, one higher; where there is none it ends
 unfoldable pub on_token : (ℕ → ℕ → Counted) → ℕ → ℕ → Paper (Spot Token) → Counted

@@ -9,24 +9,18 @@ ghost use Rattle.lexer.specs.Lexer.{token_at, string_at};
 ghost use Rattle.cursor.specs.Cursor.{peek_meaning, byte_at};
 ghost use Rattle.lookup.specs.Count.{count_meaning, count_of};
 
-use cursor::{Peek, YsonIterator};
-use refusal::{Format, Refusal};
-use token::{Read, Unescaped};
+use cursor::{NoByte, Peeked, YsonIterator};
+use refusal::{Format, Refusal, Unread};
+use token::{Placed, Read, Unescaped};
 
 // How many tokens stand in some bytes.
-#[derive(Clone, Copy)]
-pub enum Count {
-    // So many, the last of which ends at `end`. Behind it the bytes end, or end inside a token.
-    Tokens {
-        count: usize,
-        end: usize,
-    },
-    // So many, the last of which ends at `end`. Behind it stands what is no token.
-    Refused {
-        count: usize,
-        end: usize,
-        refusal: Refusal,
-    },
+#[derive(Clone, Copy, Debug, PartialEq, Eq)]
+pub struct Count {
+    pub count: usize,
+    // The place after the last.
+    pub end: usize,
+    // What stands behind it and is no token; where there is none, the bytes end there, or end inside a token.
+    pub refusal: Option<Refusal>,
 }
 
 // The token at a place.
@@ -37,7 +31,7 @@ pub fn token_at(input: &[u8], pos: usize, format: Format) -> Read
 }
 
 // The first byte from a place on that is not ignored.
-pub fn peek_at(input: &[u8], pos: usize, format: Format) -> Peek
+pub fn peek_at(input: &[u8], pos: usize, format: Format) -> Result<Peeked, NoByte>
     ensures { peek_meaning result ≡ byte_at format input.now pos }
 {
     YsonIterator::new(input, format).moved(pos).peek_byte()
@@ -60,23 +54,25 @@ pub fn count_tokens(input: &[u8], format: Format) -> Count
     let mut count = 0usize;
     let mut end = 0usize;
     while end < input.len() {
-        match token_at(input, end, format) {
-            Read::Token {
-                token: _,
-                first: _,
-                next,
-            } => {
+        let refusal = match token_at(input, end, format) {
+            Ok(Placed { next, .. }) => {
                 count += 1;
                 end = next;
+                continue;
             }
-            Read::Incomplete => return Count::Tokens { count, end },
-            Read::Refused { refusal } => return Count::Refused {
-                count,
-                end,
-                refusal,
-            },
-            Read::Beyond => return Count::Tokens { count, end },
-        }
+            Err(Unread::Refused(refusal)) => Some(refusal),
+            Err(Unread::Incomplete) => None,
+            Err(Unread::Beyond) => None,
+        };
+        return Count {
+            count,
+            end,
+            refusal,
+        };
     }
-    Count::Tokens { count, end }
+    Count {
+        count,
+        end,
+        refusal: None,
+    }
 }

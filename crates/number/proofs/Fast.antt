@@ -34,15 +34,15 @@ starts_any f [] e = e
 starts_any f (b ∷ l) e = rw e
 
 -- the end of an answer, where the text is good
-uint_end : (at next : ℕ) (l : List ℕ) → is_uint64 l ≡ true → next ≡ end_of (uint64_text at next l)
+uint_end : (at next : ℕ) (l : List ℕ) → is_uint64 l ≡ true → Some next ≡ end_of (uint64_text at next l)
 unfolding uint64_text
 uint_end at next l e = rw e
 
-int_end : (at next : ℕ) (l : List ℕ) → is_int64 l ≡ true → next ≡ end_of (int64_text at next l)
+int_end : (at next : ℕ) (l : List ℕ) → is_int64 l ≡ true → Some next ≡ end_of (int64_text at next l)
 unfolding int64_text
 int_end at next l e = rw e
 
-double_end : (at next : ℕ) (l : List ℕ) → is_double l ≡ true → next ≡ end_of (double_text at next l)
+double_end : (at next : ℕ) (l : List ℕ) → is_double l ≡ true → Some next ≡ end_of (double_text at next l)
 unfolding double_text
 double_end at next l e = rw e
 
@@ -109,19 +109,19 @@ module _ (s : List ℕ) (at a b : ℕ) (ae : Leaves s at (after_sign (drop at s)
       few : (limit k : ℕ) → b - a ≤ k → 10 ^ k ≤ limit → is_up_to limit (after_sign text) ≡ true
       few limit k c l = few_digits limit k (after_sign text) some (all_past is_digit (after_sign text) no_more) (omega (arith, count)) l
 
-      pub fast_int : b - a ≤ 18 → starts is_unsigned (drop b s) ≡ false → b ≡ end_of (number_at s at)
+      pub fast_int : b - a ≤ 18 → starts is_unsigned (drop b s) ≡ false → Some b ≡ end_of (number_at s at)
       unfolding text
       fast_int c u =
           int_end at b text (is_int text (few (2 ^ 63) 18 c (lit≤ tt)) (few (2 ^ 63 - 1) 18 c (lit≤ tt)))
           ∙ ap end_of (text_int s at (omega (arith, within, ae.low)) b (omega (arith, ae.low)) within (sym ends_here) u not_pointed)
 
-      fast_uint : b - a ≤ 19 → starts is_unsigned (drop b s) ≡ true → starts is_minus (drop at s) ≡ false → b + 1 ≡ end_of (number_at s at)
+      fast_uint : b - a ≤ 19 → starts is_unsigned (drop b s) ≡ true → starts is_minus (drop at s) ≡ false → Some (b + 1) ≡ end_of (number_at s at)
       unfolding text
       fast_uint c u m =
           uint_end at (b + 1) text (is_uint text (starts_front is_minus is_text minus_in (drop at s) ∙ m) (few (2 ^ 64 - 1) 19 c (lit≤ tt)))
           ∙ ap end_of (text_uint s at (omega (arith, within, ae.low)) b (omega (arith, ae.low)) within (sym ends_here) u)
 
-  pub fast_unsigned : starts is_unsigned (drop b s) ≡ true → a < b → b - a ≤ 19 → starts is_minus (drop at s) ≡ false → b + 1 ≡ end_of (number_at s at)
+  pub fast_unsigned : starts is_unsigned (drop b s) ≡ true → a < b → b - a ≤ 19 → starts is_minus (drop at s) ≡ false → Some (b + 1) ≡ end_of (number_at s at)
   fast_unsigned u h c m = fast_uint (starts_apart is_unsigned is_text unsigned_apart (drop b s) u) h c u m
 
   -- ---- a double, and no number text behind it
@@ -146,7 +146,7 @@ module _ (s : List ℕ) (at a b : ℕ) (ae : Leaves s at (after_sign (drop at s)
     low : at ≤ q
     low = omega (arith, simp (length-append, length-drop) at (ap length (both q w.stops ends_there)), ae.low, be.low, qe.high)
 
-    pub fast_double : q ≡ end_of (number_at s at)
+    pub fast_double : Some q ≡ end_of (number_at s at)
     unfolding text
     fast_double =
         double_end at q text is_double_lem

@@ -9,6 +9,7 @@ use native.Mathlib.Omega.{arith}
 use borrow.Author.Tests.{ltb-true, ltb-false, eqb-true, eqb-false}
 use lib.Dec.{ltb, eqb}
 use lib.IntN.{ℤ}
+use Rattle.std.specs.Prelude.{Some, None}
 use lib.ListN.{length, drop, length-append, length-drop}
 use Rattle.refusal.specs.Numbers.{bad_uint64, bad_double, bad_int64, beyond_slice}
 use Rattle.refusal.specs.Paper.{Paper, gives, more, refused, Spot, spot, pick}
@@ -193,15 +194,15 @@ module _ (s : List ℕ) (at : ℕ) where
   unfolding number_of
   number_settled h e = settled_text at (front is_text (drop at s)) (starts is_unsigned (past is_text (drop at s))) (inside s at h ∙ e)
 
-  -- an end that is not 0 is that of a number's token
-  pub end_gives : (n : ℕ) → end_of (number_at s at) ≡ n → (n ≡ 0 → ⊥) → (t : Token) × (number_at s at ≡ gives (spot t at n))
-  end_gives n e k = go (number_at s at) refl e
+  -- an end is that of a number's token
+  pub end_gives : (n : ℕ) → end_of (number_at s at) ≡ Some n → (t : Token) × (number_at s at ≡ gives (spot t at n))
+  end_gives n e = go (number_at s at) refl e
     where
-      go : (r : Paper (Spot Token)) → number_at s at ≡ r → end_of r ≡ n → (t : Token) × (number_at s at ≡ gives (spot t at n))
-      go (gives (spot t a m)) f g = (t, f ∙ rw ((number_lies t a m f).here, g))
-      go more f g = absurd (k (sym g))
-      go (refused q vs) f g = absurd (k (sym g))
+      go : (r : Paper (Spot Token)) → number_at s at ≡ r → end_of r ≡ Some n → (t : Token) × (number_at s at ≡ gives (spot t at n))
+      go (gives (spot t a m)) f g = let i : m ≡ n = cc in (t, f ∙ rw ((number_lies t a m f).here, i))
+      go more f g = cc
+      go (refused q vs) f g = cc
 
-  -- where the end is 0 there is no token
-  pub end_none : end_of (number_at s at) ≡ 0 → (t : Token) (a n : ℕ) → number_at s at ≡ gives (spot t a n) → ⊥
-  end_none e t a n f = omega (arith, (number_lies t a n f).grows, sym (ap end_of f) ∙ e)
+  -- where there is none there is no token
+  pub end_none : end_of (number_at s at) ≡ None → (t : Token) (a n : ℕ) → number_at s at ≡ gives (spot t a n) → ⊥
+  end_none e t a n f = let z : Some n ≡ None = sym (ap end_of f) ∙ e in cc

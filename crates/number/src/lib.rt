@@ -5,7 +5,7 @@
 
 mod grammar;
 
-ghost use Rattle.std.specs.Prelude.{◌≡◌, ◌-◌, ◌^◌, IsTrue, IfSome};
+ghost use Rattle.std.specs.Prelude.{◌≡◌, ◌-◌, ◌^◌, IsTrue, IfSome, Some};
 ghost use Rattle.token.specs.Meaning.{read_meaning};
 ghost use Rattle.token.specs.Ends.{end_of};
 ghost use Rattle.number.specs.Number.{uint64_text, double_text, int64_text, number_at};
@@ -132,7 +132,7 @@ fn stops(s: &[u8], q: usize) -> bool
 
 // The place after the number token at a place, where one walk settles it: few digits, or a double, with no number text behind.
 fn fast_end(input: &[u8], at: usize) -> Option<usize>
-    ensures { IfSome result (λ q. q ≡ end_of (number_at input.now at)) }
+    ensures { IfSome result (λ q. Some q ≡ end_of (number_at input.now at)) }
 {
     let a = sign_end(input, at);
     let b = digits_end(input, a);
@@ -144,16 +144,16 @@ fn fast_end(input: &[u8], at: usize) -> Option<usize>
     }
 }
 
-// The end that the full reader finds; 0 where there is none.
-fn read_end(input: &[u8], at: usize) -> usize
+// The end that the full reader finds.
+fn read_end(input: &[u8], at: usize) -> Option<usize>
     ensures { result ≡ end_of (number_at input.now at) }
 {
-    number_token(input, at).map_or(0, |placed| placed.next)
+    number_token(input, at).ok().map(|placed| placed.next)
 }
 
-// The place after the number token at a place; 0 where `number_token` gives none.
-pub fn number_end(input: &[u8], at: usize) -> usize
+// The place after the number token at a place, where `number_token` gives one.
+pub fn number_end(input: &[u8], at: usize) -> Option<usize>
     ensures { result ≡ end_of (number_at input.now at) }
 {
-    fast_end(input, at).unwrap_or_else(|| read_end(input, at))
+    fast_end(input, at).or_else(|| read_end(input, at))
 }

@@ -1,3 +1,3 @@
--- What a number's decimal digits want of powers of ten (Digits), and that a number's digits put into output are one list (One).
-mod Digits
+-- Where a word fits and where it does not (Fits), and that a number's digits put into output are one list (One).
+mod Fits
 pub mod One

@@ -1,4 +1,4 @@
 -- Laws of pieces, for the code and for callers.
-pub mod Digits
+pub mod Sizes
 pub mod Walks
 pub mod One

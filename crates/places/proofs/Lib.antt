@@ -1,2 +1,2 @@
--- Laws of lengths, places and offsets: the tests one by one (Tests).
+-- Laws of lengths and places: what the tests say (Tests).
 pub mod Tests

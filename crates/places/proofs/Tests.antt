@@ -1,24 +1,20 @@
--- The tests of lengths, places and offsets, one by one: the first that fails decides, and where none does all fit. Assumes nothing.
+-- The tests of lengths and places: what decides them, and what they say where they hold. Assumes nothing.
 use mathlib.Core.Path.{◌≡◌, refl, ◌∙◌}
 use mathlib.Core.Bool.{Bool, true, false, ◌&&◌}
-use Prim.Native.Nat.{ℕ, ◌+◌, ◌-◌, ◌≤◌, ◌<◌}
-use native.Mathlib.Omega.{arith}
+use Prim.Native.Nat.{ℕ, ◌≤◌, ◌<◌}
 use lib.Dec.{eqb, leb}
 use borrow.Author.Tests.{eq-eqb, ne_eqb, eqb-true, le-leb, lt-leb, leb-true}
-use Rattle.places.specs.Places.{least_buffer, most_buffer, most_offset, is_buffer, in_order, places_fit, offset_fits}
+use Rattle.places.specs.Places.{least_buffer, most_buffer, is_buffer, in_order, places_fit}
 
 -- two tests that both hold
 pub both : (a b : Bool) → a && b ≡ true → (a ≡ true) × (b ≡ true)
 both true b e = (refl, e)
-both false b e = let z : ◌≡◌ {A = ℕ} 0 1 = cc in absurd (omega arith)
+both false b e = cc
 
 -- ---- a buffer's length
 
 pub too_short : (n : ℕ) → n < least_buffer → is_buffer n ≡ false
 too_short n h = rw (lt-leb least_buffer n h) refl
-
-pub too_long : (n : ℕ) → least_buffer ≤ n → most_buffer < n → is_buffer n ≡ false
-too_long n a h = rw (le-leb least_buffer n a, lt-leb n most_buffer h) refl
 
 pub in_range : (n : ℕ) → least_buffer ≤ n → n ≤ most_buffer → is_buffer n ≡ true
 in_range n a b = rw (le-leb least_buffer n a, le-leb n most_buffer b) refl
@@ -44,19 +40,8 @@ module _ (len start place filled n : ℕ) where
       lengths : whole ≡ in_order start place filled n
       lengths = rw (eq-eqb len n a, b) refl
 
-      pub order_not : place < start → whole ≡ false
-      order_not h = lengths ∙ rw (lt-leb start place h) refl
-
-      module _ (d : start ≤ place) where
-        pub passed_not : filled < place → whole ≡ false
-        passed_not h = lengths ∙ rw (le-leb start place d, lt-leb place filled h) refl
-
-        module _ (e : place ≤ filled) where
-          pub within_not : n < filled → whole ≡ false
-          within_not h = lengths ∙ rw (le-leb start place d, le-leb place filled e, lt-leb filled n h) refl
-
-          pub all_fit : filled ≤ n → whole ≡ true
-          all_fit f = lengths ∙ rw (le-leb start place d, le-leb place filled e, le-leb filled n f) refl
+      pub all_fit : start ≤ place → place ≤ filled → filled ≤ n → whole ≡ true
+      all_fit d e f = lengths ∙ rw (le-leb start place d, le-leb place filled e, le-leb filled n f) refl
 
   -- what the tests say where they hold
   pub record Placed : Type 0 where
@@ -81,11 +66,3 @@ module _ (len start place filled n : ℕ) where
         passed = leb-true _ _ z.1;
         within = leb-true _ _ y.1;
       }
-
--- ---- offsets
-
-pub offset_not : (o k : ℕ) → most_offset - o < k → offset_fits o k ≡ false
-offset_not o k h = lt-leb (o + k) most_offset (omega arith)
-
-pub offset_is : (o k : ℕ) → o ≤ most_offset → k ≤ most_offset - o → offset_fits o k ≡ true
-offset_is o k a h = le-leb (o + k) most_offset (omega arith)

@@ -11,49 +11,25 @@ pub const LEAST_BUFFER: usize = 64;
 pub const MOST_BUFFER: usize = 65536;
 
 // The largest stream offset.
-pub const MOST_OFFSET: u64 = 18446744073709551615;
+pub const MOST_OFFSET: u64 = u64::MAX;
 
 // Whether a buffer may have `n` bytes.
 pub fn is_buffer(n: usize) -> bool
     ensures { result ≡ is_buffer n }
 {
-    if n < LEAST_BUFFER {
-        return false;
-    }
-    if MOST_BUFFER < n {
-        return false;
-    }
-    true
+    (LEAST_BUFFER..=MOST_BUFFER).contains(&n)
 }
 
 // Whether a state's lengths and places belong to a buffer of `n` bytes.
 pub fn places_fit(len: usize, start: usize, place: usize, filled: usize, n: usize) -> bool
     ensures { result ≡ places_fit len start place filled n }
 {
-    if len != n {
-        return false;
-    }
-    if !is_buffer(n) {
-        return false;
-    }
-    if place < start {
-        return false;
-    }
-    if filled < place {
-        return false;
-    }
-    if n < filled {
-        return false;
-    }
-    true
+    len == n && is_buffer(n) && start <= place && place <= filled && filled <= n
 }
 
 // Whether the stream offset behind `count` bytes from `offset` on is one.
 pub fn offset_fits(offset: u64, count: u64) -> bool
     ensures { result ≡ offset_fits offset count }
 {
-    if MOST_OFFSET - offset < count {
-        return false;
-    }
-    true
+    count <= MOST_OFFSET - offset
 }

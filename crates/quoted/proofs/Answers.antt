@@ -10,16 +10,18 @@ use lib.ListN.{length, get_or, drop, take, length-drop}
 use lib.Seq.{drop-drop, get_or-drop}
 use Rattle.refusal.specs.Numbers.{beyond_slice, bad_hex_escape}
 use Rattle.refusal.specs.Paper.{gives, more, refused, spot}
+use Rattle.std.specs.Prelude.{None}
 use Rattle.token.specs.Ends.{end_of}
 use Rattle.token.specs.declared.Token.TheVariants.{String, Escaped}
 use Rattle.pieces.specs.Pieces.{End, closed, bad_hex, cut, Walk, walk}
 use Rattle.pieces.specs.Answers.{measure_of}
-use Rattle.pieces.specs.declared.Measured.TheVariants.{Closed, Cut, Bad}
-use Rattle.search.proofs.Laws.{drop_more}
-use Rattle.pieces.proofs.Walks.{walk_quote, told_bad, told_cut, told_closed}
-use Rattle.quoted.specs.Quoted.{closes_at, closing, hidden, stands, judged, closed_as, quoted_at}
-use Rattle.quoted.specs.Inside.{plain, closing_by, Opens}
-use Rattle.quoted.proofs.Places.{closing_by_lem, close_out, close_quote}
+use Rattle.pieces.specs.declared.Broken.TheVariants.{Cut, Bad}
+use Rattle.std.proofs.lemmas.List.{drop_more}
+use Rattle.std.specs.Prelude.{Ok, Err}
+use Rattle.pieces.proofs.Walks.{walk_quote, told_broken, told_closed}
+use Rattle.quoted.specs.Quoted.{closes_at, unclosed, closing, hidden, stands, judged, closed_as, quoted_at}
+use Rattle.quoted.specs.Inside.{plain, Opens}
+use Rattle.quoted.proofs.Places.{close_out, close_quote}
 use Rattle.quoted.proofs.Plain.{ahead, plain_closing, plain_walk, plain_none, plain_stops, stands_at}
 
 -- the closing quote of a list that starts at p lies in that list
@@ -27,7 +29,7 @@ mutual
   unfolding closing
 
   pub closing_lies : (p : ℕ) (l : List ℕ) (q : ℕ) → closing p l ≡ closes_at q → (p ≤ q) × (q < p + length l)
-  closing_lies p [] q e = absurd (let z : ◌≡◌ {A = ℕ} 0 1 = cc in omega arith)
+  closing_lies p [] q e = cc
   closing_lies p (b ∷ l) q e = go (λ x. hidden_lies (p + 1) l q x) (λ x. closing_lies (p + 1) l q x) (eqb b 34) (eqb b 92) refl refl
     where
       go : (hidden (p + 1) l ≡ closes_at q → (p + 1 + 1 ≤ q) × (q < p + 1 + length l)) → (closing (p + 1) l ≡ closes_at q → (p + 1 ≤ q) × (q < p + 1 + length l))
@@ -40,16 +42,13 @@ mutual
       go i j false false f g = let z = j (rw (f, g) at e) in (omega arith, omega arith)
 
   pub hidden_lies : (p : ℕ) (l : List ℕ) (q : ℕ) → hidden p l ≡ closes_at q → (p + 1 ≤ q) × (q < p + length l)
-  hidden_lies p [] q e = absurd (let z : ◌≡◌ {A = ℕ} 0 1 = cc in omega arith)
+  hidden_lies p [] q e = cc
   hidden_lies p (b ∷ l) q e = let z = closing_lies (p + 1) l q e in (z.0, omega arith)
 
 -- from a backslash on it lies beyond it
 past_backslash : (s : List ℕ) (p q : ℕ) → p < length s → get_or s p 0 ≡ 92 → closing p (drop p s) ≡ closes_at q → p < q
 unfolding closing
-past_backslash s p q h b e = let z = hidden_lies (p + 1) (drop (p + 1) s) q (rw (drop_more s p h, b) at e) in omega arith
-
-pub inside : (n at : ℕ) → at ≤ n → (n ≡ at → ⊥) → at < n
-inside n at h e = omega arith
+past_backslash s p q h b e = let z = hidden_lies (p + 1) (drop (p + 1) s) q (rw (drop_more s p 0 h, b) at e) in omega arith
 
 module _ (s : List ℕ) (at : ℕ) where
   pub way_beyond : length s < at → quoted_at s at ≡ refused beyond_slice []
@@ -60,11 +59,11 @@ module _ (s : List ℕ) (at : ℕ) where
   unfolding quoted_at
   way_end e = rw (le-ltb (length s) at (omega arith), le-leb (length s) at (omega arith))
 
-  pub no_end : length s ≤ at → 0 ≡ end_of (quoted_at s at)
+  pub no_end : length s ≤ at → None ≡ end_of (quoted_at s at)
   unfolding quoted_at
   no_end h = go (ltb (length s) at) refl
     where
-      go : (t : Bool) → ltb (length s) at ≡ t → 0 ≡ end_of (quoted_at s at)
+      go : (t : Bool) → ltb (length s) at ≡ t → None ≡ end_of (quoted_at s at)
       go true e = rw e
       go false e = rw (e, le-leb _ _ h)
 
@@ -85,26 +84,31 @@ module _ (s : List ℕ) (at : ℕ) where
         ap (λ (w : Walk). w.end)
         (plain_walk (drop (at + 1) s) ∙ ap (λ (l : List ℕ). ahead (take (plain (drop (at + 1) s)) (drop (at + 1) s)) (walk 0 l)) from_there)
 
-    pub way_open : at < length s → length s ≤ p → quoted_at s at ≡ more
-    way_open h l = within h ∙ ap (closed_as s at) (same_closing ∙ sym (close_out s p l))
+    open_is : at < length s → length s ≤ p → quoted_at s at ≡ more
+    open_is h l = within h ∙ ap (closed_as s at) (same_closing ∙ sym (close_out s p l))
 
-    pub way_plain : at < length s → p < length s → get_or s p 0 ≡ 34 → quoted_at s at ≡ gives (spot (String (at + 1) (p - (at + 1))) at (p + 1))
-    way_plain h l q =
+    plain_is : at < length s → p < length s → get_or s p 0 ≡ 34 → quoted_at s at ≡ gives (spot (String (at + 1) (p - (at + 1))) at (p + 1))
+    plain_is h l q =
         within h ∙ ap (closed_as s at) (same_closing ∙ sym (close_quote s p l q)) ∙
         rw (same_end, walk_quote s p l q, len, plain_none (drop (at + 1) s))
       where
         len : p - (at + 1) ≡ plain (drop (at + 1) s)
         len = omega arith
 
-  -- a backslash stands there, and q is the place of the closing quote, or 0
-  module _ (p : ℕ) (o : Opens s at p) (q : ℕ) (c : closing_by q ≡ closing p (drop p s)) where
-    pub way_unclosed : q ≡ 0 → quoted_at s at ≡ more
-    way_unclosed z = within o.opened ∙ ap (closed_as s at) (same_closing p o.first ∙ sym c ∙ ap closing_by z)
+  pub way_open : at < length s → length s ≤ at + 1 + plain (drop (at + 1) s) → quoted_at s at ≡ more
+  way_open = open_is _ refl
 
-    module _ (n : q ≡ 0 → ⊥) where
-      closes : closing p (drop p s) ≡ closes_at q
-      closes = sym c ∙ closing_by_lem q n
+  pub way_plain : at < length s → at + 1 + plain (drop (at + 1) s) < length s → get_or s (at + 1 + plain (drop (at + 1) s)) 0 ≡ 34
+      → quoted_at s at ≡ gives (spot (String (at + 1) (at + 1 + plain (drop (at + 1) s) - (at + 1))) at (at + 1 + plain (drop (at + 1) s) + 1))
+  way_plain = plain_is _ refl
 
+  -- a backslash stands there
+  module _ (p : ℕ) (o : Opens s at p) where
+    pub way_unclosed : unclosed ≡ closing p (drop p s) → quoted_at s at ≡ more
+    way_unclosed c = within o.opened ∙ ap (closed_as s at) (same_closing p o.first ∙ sym c)
+
+    -- and q is the place of the closing quote
+    module _ (q : ℕ) (c : closes_at q ≡ closing p (drop p s)) where
       byte_there : get_or (drop (at + 1) s) (plain (drop (at + 1) s)) 0 ≡ get_or s p 0
       byte_there = get_or-drop (at + 1) s (plain (drop (at + 1) s)) 0 ∙ ap (λ (k : ℕ). get_or s k 0) (sym o.first)
 
@@ -114,22 +118,24 @@ module _ (s : List ℕ) (at : ℕ) where
       escaped : stands 92 (take (q - (at + 1)) (drop (at + 1) s)) ≡ true
       escaped =
           stands_at 92 (drop (at + 1) s) (plain (drop (at + 1) s)) (q - (at + 1))
-          (omega (arith, o.first, past_backslash s p q o.lies there closes))
+          (omega (arith, o.first, past_backslash s p q o.lies there (sym c)))
           (rw length-drop (omega (arith, o.first, o.lies)))
           (byte_there ∙ there)
 
       pub close_bounds : (at + 1 ≤ q) × (q < length s)
-      close_bounds = let z = closing_lies p (drop p s) q closes in (omega (arith, o.first), omega (arith, length-drop p s, o.lies))
+      close_bounds = let z = closing_lies p (drop p s) q (sym c) in (omega (arith, o.first), omega (arith, length-drop p s, o.lies))
 
       way_judged : (x : End) → (walk 0 (drop p s)).end ≡ x → quoted_at s at ≡ judged x at (Escaped (at + 1) (q - (at + 1))) (q + 1)
-      way_judged x f = within o.opened ∙ ap (closed_as s at) (same_closing p o.first ∙ closes) ∙ rw (same_end p o.first, f, escaped)
+      way_judged x f = within o.opened ∙ ap (closed_as s at) (same_closing p o.first ∙ sym c) ∙ rw (same_end p o.first, f, escaped)
 
       -- by what measuring from there gives
-      pub way_bad : Bad ≡ measure_of (walk 0 (drop p s)) → quoted_at s at ≡ refused bad_hex_escape (at ∷ [])
-      way_bad e = way_judged bad_hex (told_bad _ e)
+      pub way_bad : Err Bad ≡ measure_of (walk 0 (drop p s)) → quoted_at s at ≡ refused bad_hex_escape (at ∷ [])
+      way_bad e = way_judged bad_hex (told_broken _ Bad e)
 
-      pub way_cut : Cut ≡ measure_of (walk 0 (drop p s)) → quoted_at s at ≡ more
-      way_cut e = way_judged cut (told_cut _ e)
+      pub way_cut : Err Cut ≡ measure_of (walk 0 (drop p s)) → quoted_at s at ≡ more
+      way_cut e = way_judged cut (told_broken _ Cut e)
 
-      pub way_escaped : (n : ℕ) → Closed n ≡ measure_of (walk 0 (drop p s)) → quoted_at s at ≡ gives (spot (Escaped (at + 1) (q - (at + 1))) at (q + 1))
+      pub way_escaped : (n : ℕ) → Ok n ≡ measure_of (walk 0 (drop p s)) → quoted_at s at ≡ gives (spot (Escaped (at + 1) (q - (at + 1))) at (q + 1))
       way_escaped n e = way_judged closed (told_closed _ n e).0
+
+pub ruleset ways = (way_beyond, way_end, way_open, way_plain, no_end)

@@ -8,6 +8,7 @@ use Prim.Native.Nat.{ℕ, suc, ◌+◌, ◌-◌, ◌≤◌, ◌<◌}
 use native.Mathlib.Omega.{arith}
 use borrow.Author.Tests.{ltb-true, eqb-true, eqb-false}
 use lib.Dec.{ltb, leb, eqb}
+use Rattle.std.specs.Prelude.{Some}
 use lib.ListN.{length, drop, take, length-drop}
 use Rattle.refusal.specs.Numbers.{beyond_slice, bad_hex_escape}
 use Rattle.refusal.specs.Paper.{Paper, gives, more, refused, Spot, spot, pick}
@@ -20,6 +21,7 @@ use Rattle.token.specs.declared.Kind.TheVariants.{Text}
 use Rattle.pieces.specs.Bytes.{backslash}
 use Rattle.pieces.specs.Pieces.{End, closed, bad_hex, cut, Walk, walk}
 use Rattle.pieces.proofs.Walks.{walk_quote_cons, walk_plain_cons}
+use Rattle.std.specs.Prelude.{Some, None}
 use Rattle.token.specs.Ends.{end_of}
 use Rattle.quoted.specs.Quoted.{Closing, closes_at, unclosed, closing, stands, token_of, judged, closed_as, quoted_at, quoted_bytes}
 use Rattle.quoted.proofs.Plain.{stands_at}
@@ -90,36 +92,36 @@ module _ (s : List ℕ) (at : ℕ) where
   pub quoted_beyond : length s < at → quoted_at s at ≡ refused beyond_slice []
   quoted_beyond h = way_beyond s at h
 
-  -- an end that is not 0 is that of a string
-  pub end_is_string : (end_of (quoted_at s at) ≡ 0 → ⊥) → kinds_of (quoted_at s at) ≡ gives (spot Text at (end_of (quoted_at s at)))
-  end_is_string n = go (quoted_at s at) says n
+  -- an end is that of a string
+  pub end_is_string : (n : ℕ) → end_of (quoted_at s at) ≡ Some n → kinds_of (quoted_at s at) ≡ gives (spot Text at n)
+  end_is_string n e = go (quoted_at s at) says e
     where
-      go : (x : Paper (Spot Token)) → Says (length s) at x → (end_of x ≡ 0 → ⊥) → kinds_of x ≡ gives (spot Text at (end_of x))
-      go (gives (spot t first next)) f m = ap₂ (λ (k : Kind) (p : ℕ). gives (spot k p next)) f.kind f.here
-      go more f m = absurd (m refl)
-      go (refused k vs) f m = absurd (m refl)
+      go : (x : Paper (Spot Token)) → Says (length s) at x → end_of x ≡ Some n → kinds_of x ≡ gives (spot Text at n)
+      go (gives (spot t first next)) f m = let i : next ≡ n = cc in ap₂ (λ (k : Kind) (p : ℕ). gives (spot k p next)) f.kind f.here ∙ ap (λ (m : ℕ). gives (spot Text at m)) i
+      go more f m = absurd cc
+      go (refused k vs) f m = absurd cc
 
-  -- and the end 0 is that of none
-  pub end_is_none : end_of (quoted_at s at) ≡ 0 → (t : Token) (first next : ℕ) → quoted_at s at ≡ gives (spot t first next) → ⊥
-  end_is_none z t first next e = omega (arith, (quoted_gives t first next e).past, sym (ap end_of e) ∙ z)
+  -- where there is none no string is given
+  pub end_is_none : end_of (quoted_at s at) ≡ None → (t : Token) (first next : ℕ) → quoted_at s at ≡ gives (spot t first next) → ⊥
+  end_is_none z t first next e = let c : Some next ≡ None = sym (ap end_of e) ∙ z in cc
 
   -- the end lies among the bytes
-  pub end_lies : end_of (quoted_at s at) ≤ length s
-  end_lies = go (quoted_at s at) says
+  pub end_lies : (n : ℕ) → end_of (quoted_at s at) ≡ Some n → n ≤ length s
+  end_lies n e = go (quoted_at s at) says e
     where
-      go : (x : Paper (Spot Token)) → Says (length s) at x → end_of x ≤ length s
-      go (gives (spot t first next)) f = f.lies
-      go more f = omega arith
-      go (refused k vs) f = omega arith
+      go : (x : Paper (Spot Token)) → Says (length s) at x → end_of x ≡ Some n → n ≤ length s
+      go (gives (spot t first next)) f m = let i : next ≡ n = cc in rw i at f.lies
+      go more f m = absurd cc
+      go (refused k vs) f m = absurd cc
 
-  -- and past the opening quote, unless it is 0
-  pub end_past : (end_of (quoted_at s at) ≡ 0 → ⊥) → at < end_of (quoted_at s at)
-  end_past n = go (quoted_at s at) says n
+  -- and past the opening quote
+  pub end_past : (n : ℕ) → end_of (quoted_at s at) ≡ Some n → at < n
+  end_past n e = go (quoted_at s at) says e
     where
-      go : (x : Paper (Spot Token)) → Says (length s) at x → (end_of x ≡ 0 → ⊥) → at < end_of x
-      go (gives (spot t first next)) f m = f.past
-      go more f m = absurd (m refl)
-      go (refused k vs) f m = absurd (m refl)
+      go : (x : Paper (Spot Token)) → Says (length s) at x → end_of x ≡ Some n → at < n
+      go (gives (spot t first next)) f m = let i : next ≡ n = cc in rw i at f.past
+      go more f m = absurd cc
+      go (refused k vs) f m = absurd cc
 
 -- ---- what a string that is given has between its quotes
 
@@ -157,7 +159,7 @@ module _ (s : List ℕ) (at : ℕ) where
 -- with no backslash before the closing quote the bytes stand as they are
 plain_bytes : (p : ℕ) (l : List ℕ) (q : ℕ) → closing p l ≡ closes_at q → stands backslash (take (q - p) l) ≡ false → (walk 0 l).bytes ≡ take (q - p) l
 unfolding closing stands
-plain_bytes p [] q e n = absurd (let z : ◌≡◌ {A = ℕ} 0 1 = cc in omega arith)
+plain_bytes p [] q e n = cc
 plain_bytes p (b ∷ l) q e n = go (plain_bytes (p + 1) l q) (eqb b 34) (eqb b 92) refl refl
   where
     go : (closing (p + 1) l ≡ closes_at q → stands backslash (take (q - (p + 1)) l) ≡ false → (walk 0 l).bytes ≡ take (q - (p + 1)) l)
@@ -171,7 +173,7 @@ plain_bytes p (b ∷ l) q e n = go (plain_bytes (p + 1) l q) (eqb b 34) (eqb b 9
         hid : (p + 1 + 1 ≤ q) × (q < p + 1 + length l) → ⊥
         hid z =
             let x : true ≡ false = sym (stands_at backslash (b ∷ l) 0 (q - p) (omega arith) (omega arith) (eqb-true _ _ g)) ∙ n in
-            let y : ◌≡◌ {A = ℕ} 1 0 = cc in omega arith
+            cc
     go i false false f g =
         let c = rw (f, g) at e in
         let z = closing_lies (p + 1) l q c in
@@ -185,7 +187,7 @@ plain_bytes p (b ∷ l) q e n = go (plain_bytes (p + 1) l q) (eqb b 34) (eqb b 9
 
 -- so the bytes of a string whose token says where they stand
 pub string_bytes : (s : List ℕ) (at : ℕ) (t : Token) (first next start len : ℕ) → quoted_at s at ≡ gives (spot t first next)
-    → extent_of t ≡ Plain start len → quoted_bytes s at ≡ take len (drop start s)
+    → extent_of t ≡ Some (Plain start len) → quoted_bytes s at ≡ take len (drop start s)
 unfolding quoted_bytes
 string_bytes s at t first next start len e x = go (quoted_ended s at t first next e)
   where
@@ -193,9 +195,9 @@ string_bytes s at t first next start len e x = go (quoted_ended s at t first nex
     go r = both (stands backslash (take (r.quote_at - (at + 1)) (drop (at + 1) s))) refl (sym (ap extent_of r.token) ∙ x)
       where
         both : (b : Bool) → stands backslash (take (r.quote_at - (at + 1)) (drop (at + 1) s)) ≡ b
-            → extent_of (pick b (Escaped (at + 1) (r.quote_at - (at + 1))) (String (at + 1) (r.quote_at - (at + 1)))) ≡ Plain start len
+            → extent_of (pick b (Escaped (at + 1) (r.quote_at - (at + 1))) (String (at + 1) (r.quote_at - (at + 1)))) ≡ Some (Plain start len)
             → (walk 0 (drop (at + 1) s)).bytes ≡ take len (drop start s)
-        both true n f = absurd (let z : ◌≡◌ {A = ℕ} 0 1 = cc in omega arith)
+        both true n f = cc
         both false n f =
             let a : at + 1 ≡ start = cc in
             let l : r.quote_at - (at + 1) ≡ len = cc in

@@ -1,18 +1,18 @@
 -- The closing quote by place: what holds from a place holds from the next.
-use mathlib.Core.Path.{◌≡◌, refl}
-use mathlib.Core.List.{List}
-use Prim.Native.Nat.{ℕ, zero, suc, ◌+◌, ◌≤◌, ◌<◌}
+use mathlib.Core.Path.{◌≡◌, refl, sym, ap, ap₂, ◌∙◌}
+use mathlib.Core.List.{List, [], ◌∷◌}
+use Prim.Native.Nat.{ℕ, ◌+◌, ◌≤◌, ◌<◌}
 use native.Mathlib.Omega.{arith}
 use borrow.Author.Tests.{ne_eqb}
 use lib.ListN.{length, get_or, drop, drop_of_length-le}
-use Rattle.search.proofs.Laws.{drop_more}
-use Rattle.quoted.specs.Quoted.{closes_at, unclosed, closing}
-use Rattle.quoted.specs.Inside.{closing_by}
+use lib.Seq.{drop-drop}
+use Rattle.std.proofs.lemmas.List.{drop_more}
+use Rattle.quoted.specs.Quoted.{closes_at, unclosed, closing, hidden}
 
--- a number that is not 0 is a place
-pub closing_by_lem : (q : ℕ) → (q ≡ 0 → ⊥) → closing_by q ≡ closes_at q
-closing_by_lem zero n = absurd (n refl)
-closing_by_lem (suc q) n = refl
+hidden_is : (p : ℕ) (l : List ℕ) → hidden p l ≡ closing (p + 1) (drop 1 l)
+unfolding closing
+hidden_is p [] = refl
+hidden_is p (b ∷ l) = refl
 
 module _ (s : List ℕ) (p : ℕ) where
   pub close_out : length s ≤ p → unclosed ≡ closing p (drop p s)
@@ -22,19 +22,22 @@ module _ (s : List ℕ) (p : ℕ) where
   module _ (h : p < length s) where
     pub close_quote : get_or s p 0 ≡ 34 → closes_at p ≡ closing p (drop p s)
     unfolding closing
-    close_quote e = rw (drop_more s p h, e)
+    close_quote e = rw (drop_more s p 0 h, e)
 
     pub close_plain : (get_or s p 0 ≡ 34 → ⊥) → (get_or s p 0 ≡ 92 → ⊥) → closing (p + 1) (drop (p + 1) s) ≡ closing p (drop p s)
     unfolding closing
-    close_plain m n = rw (drop_more s p h, ne_eqb _ _ m, ne_eqb _ _ n)
+    close_plain m n = rw (drop_more s p 0 h, ne_eqb _ _ m, ne_eqb _ _ n)
 
-    pub close_last : get_or s p 0 ≡ 92 → length s ≤ p + 1 → unclosed ≡ closing p (drop p s)
-    unfolding closing
-    close_last e l = rw (drop_more s p h, e, drop_of_length-le s l)
+    -- a backslash hides the byte behind it, if there is one
+    module _ (e : get_or s p 0 ≡ 92) where
+      pub close_escape : closing p (drop p s) ≡ hidden (p + 1) (drop (p + 1) s)
+      unfolding closing
+      close_escape = rw (drop_more s p 0 h, e)
 
-pub close_hidden : (s : List ℕ) (p : ℕ) → p + 1 < length s → get_or s p 0 ≡ 92 → closing (p + 2) (drop (p + 2) s) ≡ closing p (drop p s)
-unfolding closing
-close_hidden s p h e = rw (two, drop_more s p (omega arith), e, drop_more s (p + 1) h)
-  where
-    two : p + 2 ≡ p + 1 + 1
-    two = omega arith
+      pub close_hidden : closing (p + 2) (drop (p + 2) s) ≡ closing p (drop p s)
+      close_hidden = sym (close_escape ∙ hidden_is (p + 1) (drop (p + 1) s) ∙ ap₂ closing same (drop-drop 1 (p + 1) s ∙ ap (λ (n : ℕ). drop n s) same))
+        where
+          same : p + 1 + 1 ≡ p + 2
+          same = omega arith
+
+pub ruleset closes = (close_out, close_quote, close_plain, close_hidden)

@@ -18,14 +18,18 @@ use Rattle.pieces.specs.Bytes.{hex_digit, octal_digit, is_hex, is_octal}
 use Rattle.pieces.specs.Pieces.{End, closed, bad_hex, cut, Piece, byte, ends, hex_of, third_of, octal_of, escape_of, Walk, walk}
 use Rattle.quoted.specs.Quoted.{Closing, closes_at, unclosed, closing, hidden, closed_as, quoted_at}
 use Rattle.quoted.specs.Inside.{whole_by, whole_from}
-use Rattle.pieces.proofs.Digits.{escape_size}
-use Rattle.search.proofs.Laws.{drop_more}
+use Rattle.pieces.proofs.Sizes.{escape_size}
+use Rattle.std.specs.Prelude.{Some, None}
+use Rattle.pieces.specs.declared.Escaped.{Escaped}
+use Rattle.pieces.specs.declared.Broken.{Broken}
+use Rattle.pieces.specs.declared.Broken.TheVariants.{Cut, Bad}
+use Rattle.pieces.specs.Answers.{broken_at}
 use Rattle.pieces.proofs.Walks.{walk_out, walk_quote, walk_plain, walk_byte, walk_ends}
-use Rattle.quoted.proofs.Places.{close_quote, close_plain}
+use Rattle.quoted.proofs.Places.{close_quote, close_plain, close_escape}
 use Rattle.quoted.proofs.Answers.{within}
 
 no : true ≡ false → ⊥
-no e = let z : ◌≡◌ {A = ℕ} 1 0 = cc in omega arith
+no e = cc
 
 -- ---- a byte that an escape takes is neither a quote nor a backslash
 abbrev Plain : ℕ → Type 0
@@ -108,20 +112,29 @@ module _ (p : ℕ) where
   -- an escape that is whole leaves the closing quote as it was
   escape_keeps : (l : List ℕ) (v k : ℕ) → escape_of l ≡ byte v k → hidden (p + 1) l ≡ closing (p + k) (drop (k - 1) l)
   unfolding closing escape_of
-  escape_keeps [] v k e = absurd (let z : ◌≡◌ {A = ℕ} 0 1 = cc in omega arith)
+  escape_keeps [] v k e = cc
   escape_keeps (c ∷ l) v k e = ap (λ (q : ℕ). closing q l) same ∙ (rw e at (escape_hides c l))
     where
       same : p + 1 + 1 ≡ p + 2
       same = omega arith
 
+other_quote : (b : ℕ) → is_quote b ≡ true → (b ≡ 34 → ⊥) → b ≡ 92
+unfolding is_quote
+other_quote b e n = go (eqb b 34) (eqb b 92) refl refl e
+  where
+    go : (t u : Bool) → eqb b 34 ≡ t → eqb b 92 ≡ u → (t || u) ≡ true → b ≡ 92
+    go true u f g e = absurd (n (eqb-true b 34 f))
+    go false true f g e = eqb-true b 92 g
+    go false false f g e = absurd (no (sym e))
+
 -- ---- the end from a place, by what stands there
 module _ (s : List ℕ) (p : ℕ) where
-  pub whole_out : length s ≤ p → 0 ≡ whole_from s p
+  pub whole_out : length s ≤ p → None ≡ whole_from s p
   unfolding whole_from
   whole_out h = rw (walk_out s p h)
 
   module _ (h : p < length s) where
-    pub whole_quote : get_or s p 0 ≡ 34 → p + 1 ≡ whole_from s p
+    pub whole_quote : get_or s p 0 ≡ 34 → Some (p + 1) ≡ whole_from s p
     unfolding whole_from
     whole_quote e = rw (walk_quote s p h e, ← close_quote s p h e)
 
@@ -129,30 +142,33 @@ module _ (s : List ℕ) (p : ℕ) where
     unfolding whole_from
     whole_plain m n = ap₂ whole_by (ap (λ (w : Walk). w.end) (walk_plain s p h m n)) (sym (close_plain s p h m n))
 
-    opened : get_or s p 0 ≡ 92 → closing p (drop p s) ≡ hidden (p + 1) (drop (p + 1) s)
-    unfolding closing
-    opened e = rw (drop_more s p h, e)
+    -- a quote or a backslash stands there, and no quote: an escape that is broken, and one that is whole
+    module _ (i : is_quote (get_or s p 0) ≡ true) (n : get_or s p 0 ≡ 34 → ⊥) where
+      there : get_or s p 0 ≡ 92
+      there = other_quote _ i n
 
-    -- an escape that is an end, and one that is whole
-    module _ (b : get_or s p 0 ≡ 92) where
-      pub whole_ends : (x : End) → ends x ≡ escape_of (take (length s - (p + 1)) (drop (p + 1) s)) → whole_by x (closing p (drop p s)) ≡ whole_from s p
+      pub whole_broken : (x : Broken) → ends (broken_at x) ≡ escape_of (take (length s - (p + 1)) (drop (p + 1) s)) → None ≡ whole_from s p
       unfolding whole_from
-      whole_ends x e = rw (walk_ends s p h b x e)
+      whole_broken x e = none x ∙ ap (λ (w : Walk). whole_by w.end (closing p (drop p s))) (sym (walk_ends s p h there (broken_at x) e))
+        where
+          none : (x : Broken) → None ≡ whole_by (broken_at x) (closing p (drop p s))
+          none Cut = refl
+          none Bad = refl
 
-      pub whole_byte : (v k : ℕ) → byte v k ≡ escape_of (take (length s - (p + 1)) (drop (p + 1) s)) → whole_from s (p + k) ≡ whole_from s p
+      pub whole_byte : (x : Escaped) → byte x.byte x.size ≡ escape_of (take (length s - (p + 1)) (drop (p + 1) s)) → whole_from s (p + x.size) ≡ whole_from s p
       unfolding whole_from
-      whole_byte v k e = sym (ap₂ whole_by (ap (λ (w : Walk). w.end) (walk_byte s p h b v k e)) close_byte)
+      whole_byte x e = sym (ap₂ whole_by (ap (λ (w : Walk). w.end) (walk_byte s p h there _ _ e)) close_byte)
         where
           rest : take (length s - (p + 1)) (drop (p + 1) s) ≡ drop (p + 1) s
           rest = take_all (length s - (p + 1)) (drop (p + 1) s) (rw length-drop (omega arith))
 
-          same : p + 1 + (k - 1) ≡ p + k
-          same = omega (arith, (escape_size _ v k e).0)
+          same : p + 1 + (x.size - 1) ≡ p + x.size
+          same = omega (arith, (escape_size _ _ _ e).0)
 
-          close_byte : closing p (drop p s) ≡ closing (p + k) (drop (p + k) s)
+          close_byte : closing p (drop p s) ≡ closing (p + x.size) (drop (p + x.size) s)
           close_byte =
-              opened b ∙ escape_keeps p (drop (p + 1) s) v k (sym (e ∙ ap escape_of rest))
-              ∙ ap (closing (p + k)) (drop-drop (k - 1) (p + 1) s ∙ ap (λ (n : ℕ). drop n s) same)
+              close_escape s p h there ∙ escape_keeps p (drop (p + 1) s) _ _ (sym (e ∙ ap escape_of rest))
+              ∙ ap (closing (p + x.size)) (drop-drop (x.size - 1) (p + 1) s ∙ ap (λ (n : ℕ). drop n s) same)
 
 -- the bytes before the next quote or backslash change nothing
 pub whole_jump : (s : List ℕ) (p : ℕ) → whole_from s p ≡ whole_from s (first_from is_quote s p)
@@ -171,15 +187,6 @@ whole_jump s = same_at_first is_quote s (whole_from s) (λ p h e. whole_plain s 
 pub found_quote : (s : List ℕ) (p q : ℕ) → q ≡ first_from is_quote s p → q < length s → is_quote (get_or s q 0) ≡ true
 found_quote s p q e h = ap (λ (x : ℕ). is_quote (get_or s x 0)) e ∙ first_found is_quote s p (omega arith)
 
-pub other_quote : (b : ℕ) → is_quote b ≡ true → (b ≡ 34 → ⊥) → b ≡ 92
-unfolding is_quote
-other_quote b e n = go (eqb b 34) (eqb b 92) refl refl e
-  where
-    go : (t u : Bool) → eqb b 34 ≡ t → eqb b 92 ≡ u → (t || u) ≡ true → b ≡ 92
-    go true u f g e = absurd (n (eqb-true b 34 f))
-    go false true f g e = eqb-true b 92 g
-    go false false f g e = absurd (no (sym e))
-
 -- the end of the quoted string at a place
 pub whole_end : (s : List ℕ) (at : ℕ) → at < length s → whole_from s (at + 1) ≡ end_of (quoted_at s at)
 unfolding whole_from
@@ -192,3 +199,5 @@ whole_end s at h = go (walk 0 (drop (at + 1) s)).end (closing (at + 1) (drop (at
     go bad_hex unclosed e = refl
     go cut (closes_at q) e = rw e
     go cut unclosed e = refl
+
+pub ruleset walked = (whole_out, whole_quote, whole_byte, whole_jump, found_quote)

@@ -1,5 +1,5 @@
--- How the private functions answer in one number: contracts of the code alone, and no part of what a quoted string is.
-use Rattle.std.specs.Prelude.{ℕ, zero, suc, ◌+◌, ◌<◌, ◌≡◌, List, [], ◌∷◌, eqb, length, get_or, drop}
+-- How the private functions answer: contracts of the code alone, and no part of what a quoted string is.
+use Rattle.std.specs.Prelude.{ℕ, suc, ◌+◌, ◌<◌, ◌≡◌, List, [], ◌∷◌, eqb, length, get_or, drop, Option, Some, None}
 use Rattle.refusal.specs.Paper.{pick}
 use Rattle.pieces.specs.Bytes.{quote, backslash}
 use Rattle.pieces.specs.Pieces.{End, closed, bad_hex, cut, walk}
@@ -17,18 +17,18 @@ pub record Opens (s : List ℕ) (at p : ℕ) : Type 0 where
   pub lies : p < length s
   pub escape : get_or s p 0 ≡ quote → ⊥
 
--- the closing quote: its place, or 0
-abbrev pub closing_by : ℕ → Closing
-closing_by zero = unclosed
-closing_by (suc q) = closes_at (suc q)
+-- the closing quote, by its place
+abbrev pub closing_by : Option ℕ → Closing
+closing_by None = unclosed
+closing_by (Some q) = closes_at q
 
--- the place after the closing quote, or 0 where there is none or an escape before it is bad or cut
-abbrev pub whole_by : End → Closing → ℕ
-whole_by closed (closes_at q) = q + 1
-whole_by closed unclosed = 0
-whole_by bad_hex c = 0
-whole_by cut c = 0
+-- the place after the closing quote; none where there is no such quote, or an escape before it is bad or cut
+abbrev pub whole_by : End → Closing → Option ℕ
+whole_by closed (closes_at q) = Some (q + 1)
+whole_by closed unclosed = None
+whole_by bad_hex c = None
+whole_by cut c = None
 
 -- the same, of the pieces from a place on
-unfoldable pub whole_from : List ℕ → ℕ → ℕ
+unfoldable pub whole_from : List ℕ → ℕ → Option ℕ
 whole_from s p = whole_by (walk 0 (drop p s)).end (closing p (drop p s))

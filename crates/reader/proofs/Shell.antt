@@ -9,22 +9,22 @@ use lib.Seq.{slice, length-slice}
 use lib.Dec.{eqb}
 use borrow.Author.Tests.{leb-true}
 use Rattle.refusal.specs.Numbers.{strange_state}
-use Rattle.refusal.specs.Paper.{gives, refused}
+use Rattle.refusal.specs.Paper.{Paper, gives, more, refused}
 use Rattle.automaton.specs.Limit.{most_open}
 use Rattle.places.specs.Places.{offset_fits}
 use Rattle.places.proofs.Tests.{both, placed}
 use Rattle.kept.specs.declared.Blocks.{Blocks}
 use Rattle.kept.specs.Kept.{kinds_known, depth_within, depth_within_passed, due_fits, blocks_fit}
 use Rattle.blocks.specs.Readings.{Reached, Reader, Grows, binary, read_from, pass_of}
-use Rattle.blocks.proofs.Laws.{pass_few}
+use Rattle.blocks.proofs.Laws.{pass_few, binary_grows}
 use Rattle.blocks.proofs.Ranged.{ranged}
 use Rattle.reader.specs.declared.State.{State}
 use Rattle.reader.specs.Fits.{held_of, fits, places_agree, offset_agrees, blocks_agree, Fitting}
 use Rattle.reader.specs.Meaning.{told, looked}
-use Rattle.reader.specs.Calls.{skipped_of, state_at, buffered_of, read_of, taken_of, filled_by, offer_of, buffer_of, look_of, next_by, Within}
+use Rattle.reader.specs.Calls.{skipped_of, state_at, buffered_of, read_of, taken_of, filled_by, offer_of, buffer_of, hand_out, look_of, next_by, Within}
 use Rattle.buffer.specs.Buffer.{separators}
 use Rattle.blocks.proofs.Firsts.{pick_case}
-use Rattle.buffer.proofs.Buffer.{part_is, seps_le}
+use Rattle.buffer.proofs.Buffer.{part_is, seps_le, taken_is, refilled_is}
 
 fit_depth : (b : Blocks) (passed : ℕ) → blocks_fit b passed ≡ true → b.depth ≤ most_open
 unfolding blocks_fit
@@ -74,14 +74,26 @@ within t G s l F =
     let r = ranged t G (buffered_of s l) (s.place - s.start) s.blocks (omega arith) in
     record { to = omega (arith, r.to); whole = λ q e. (omega (arith, r.whole q e), omega (arith, r.whole q e)) }
 
--- the state behind the separators belongs to the buffer, and the tokens of the bytes buffered there are read
-module _ (s t : State) (l : List ℕ) (e : fits s (length l) ≡ true) (f : t ≡ skipped_of s l) where
-  pub skipped_at : Fitting t (length l)
-  skipped_at = rw f (skipped_fits s l (fitting s (length l) e))
+-- the tokens of the bytes buffered are read, as they are lent
+pub pass_reads : (s : State) (l : List ℕ) → Fitting s (length l) → pass_of (take (s.filled - s.start) (drop s.start l)) (s.place - s.start) s.blocks ≡ read_of binary s l
+pass_reads s l F = pass_few _ _ _ F.depth ∙ ap (λ (x : List ℕ). read_from x (s.place - s.start) s.blocks) (part_is s.start s.filled l)
 
-  pub run_is : (r : Reached) → r ≡ pass_of (take (t.filled - t.start) (drop t.start l)) (t.place - t.start) t.blocks → r ≡ read_of binary t l
-  run_is r passed =
-      passed ∙ pass_few _ _ _ skipped_at.depth ∙ ap (λ (x : List ℕ). read_from x (t.place - t.start) t.blocks) (part_is t.start t.filled l)
+-- and lie within them, whatever blocks are open then
+pub binary_within : (s : State) (l : List ℕ) (b : Blocks) → Fitting s (length l) → Within (state_at s s.offset s.start s.place b) (read_of binary s l)
+binary_within s l b F = let w = within binary binary_grows s l F in record { to = w.to; whole = w.whole }
+
+-- what is handed out does not turn on the blocks before
+pub hand_out_from : (a : Paper ℕ) (s : State) (b : Blocks) (r : Reached) (l : List ℕ) → hand_out a (record { len = s.len; offset = s.offset; start = s.start; place = s.place; filled = s.filled; closed = s.closed; blocks = b }) r l ≡ hand_out a s r l
+hand_out_from (gives q) s b r l = refl
+hand_out_from more s b r l = refl
+hand_out_from (refused n vs) s b r l = refl
+
+-- what the calls of a state rest on
+pub ruleset offering = (fitting, taken_is, refilled_is)
+
+pub ruleset skipping = (part_is, seps_held, skipped_fits)
+
+pub ruleset reading = (fitting, pass_reads, binary_within, hand_out_from)
 
 -- a piece that is not refused
 module _ (s : State) where

@@ -3,398 +3,192 @@
 // Input that cannot be read to its end and output that cannot be written are told on standard error, and no `end` line follows.
 #![tactic(auto)]
 
-ghost use Rattle.std.specs.Prelude.{◌+◌, ◌≤◌, length};
-
+use output::Text;
 use reader::{Found, Mark, State, Taking};
-use std::io::{Read, Stderr, Stdin, Stdout};
+use std::io::{Read, Stdin, Stdout, Write};
 
 // More than the longest line.
 const LINE: usize = 96;
 
-// How much of the output is filled, where it could not be written: nothing more is put there, and the last flush fails.
-const LOST: usize = usize::MAX;
-
-// Why no piece is read any more.
-#[derive(Drop)]
+// Why nothing is read any more.
+#[derive(Clone, Copy)]
 enum Stop {
-    // One is to be read.
-    No,
-    // The input is at its end.
-    Over,
     // The last line is put.
     Told,
     // The input could not be read.
     Unread,
+    // The output could not be written.
+    Unwritten,
 }
 
-// Where the program stands: the stream's state, how much of the output is filled, the records handed out, and what stopped it.
+// Where lines go: the text that is to be written out, and standard output.
 #[derive(Drop)]
-struct Go {
-    state: State,
-    filled: usize,
-    records: u64,
-    stop: Stop,
-}
-
-// Writes out what is filled, and answers whether it could be written.
-fn flush(stdout: Stdout, out: &[u8], filled: usize) -> bool {
-    if out.len() < filled {
-        return false;
-    }
-    stdout.write_all(&out[..filled]).is_ok()
-}
-
-// Room for a line: where there is none, what is filled is written out.
-fn spare(stdout: Stdout, out: &[u8], filled: usize) -> usize {
-    if out.len() < filled {
-        return LOST;
-    }
-    if LINE <= out.len() - filled {
-        return filled;
-    }
-    if flush(stdout, out, filled) {
-        return 0;
-    }
-    LOST
-}
-
-// `OFFSET LENGTH MARK`
-fn put_record(
+struct Lines<'a> {
+    text: Text<'a>,
     stdout: Stdout,
-    out: &mut [u8],
-    filled: usize,
-    offset: u64,
-    length: usize,
-    mark: Mark,
-) -> usize {
-    let n = spare(stdout, out, filled);
-    let a = output::put_decimal(out, n, offset);
-    let b = output::put_word(out, a, b" ");
-    let c = output::put_decimal(out, b, length as u64);
-    match mark {
-        Mark::Row => output::put_word(out, c, b" row\n"),
-        Mark::Control => output::put_word(out, c, b" control\n"),
+}
+
+impl Lines<'_> {
+    // Writes the text out. What could not be written is not tried again.
+    fn flush(&mut self) -> Result<(), Stop> {
+        let mut stdout = self.stdout;
+        let filled = self.text.filled;
+        self.text.filled = 0;
+        let Some(bytes) = self.text.bytes.get(..filled) else {
+            return Err(Stop::Unwritten);
+        };
+        stdout.write_all(bytes).map_err(|_| Stop::Unwritten)
     }
-}
 
-// `refused NUMBER OFFSET`
-fn put_refused(stdout: Stdout, out: &mut [u8], filled: usize, number: usize, offset: u64) -> usize {
-    let n = spare(stdout, out, filled);
-    let a = output::put_word(out, n, b"refused ");
-    let b = output::put_decimal(out, a, number as u64);
-    let c = output::put_word(out, b, b" ");
-    let d = output::put_decimal(out, c, offset);
-    output::put_word(out, d, b"\n")
-}
-
-// `end TAKEN records COUNT`
-fn put_end(stdout: Stdout, out: &mut [u8], filled: usize, taken: u64, records: u64) -> usize {
-    let n = spare(stdout, out, filled);
-    let a = output::put_word(out, n, b"end ");
-    let b = output::put_decimal(out, a, taken);
-    let c = output::put_word(out, b, b" records ");
-    let d = output::put_decimal(out, c, records);
-    output::put_word(out, d, b"\n")
-}
-
-// The last line is a refusal.
-fn refuse(
-    stdout: Stdout,
-    out: &mut [u8],
-    state: State,
-    filled: usize,
-    records: u64,
-    number: usize,
-    offset: u64,
-) -> Go {
-    Go {
-        state,
-        filled: put_refused(stdout, out, filled, number, offset),
-        records,
-        stop: Stop::Told,
-    }
-}
-
-// Next, until it wants more or stops.
-fn drain(stdout: Stdout, buf: &[u8], out: &mut [u8], before: State, put: usize, known: u64) -> Go {
-    let mut state = before;
-    let mut filled = put;
-    let mut records = known;
-    let mut turns = u64::MAX;
-    while turns > 0 {
-        turns -= 1;
-        let t = state.next(buf);
-        state = t.state;
-        let answer = t.answer;
-        match answer {
-            Found::Record {
-                place: _,
-                length,
-                offset,
-                mark,
-            } => {
-                filled = put_record(stdout, out, filled, offset, length, mark);
-                records = std::num::wrapping_add_u64(records, 1);
-            }
-            Found::Malformed { offset, refusal: _ } => {
-                return refuse(
-                    stdout,
-                    out,
-                    state,
-                    filled,
-                    records,
-                    refusal::MALFORMED_RECORD,
-                    offset,
-                );
-            }
-            Found::TooLong { offset, len: _ } => {
-                return refuse(
-                    stdout,
-                    out,
-                    state,
-                    filled,
-                    records,
-                    refusal::RECORD_TOO_LONG,
-                    offset,
-                );
-            }
-            Found::CutShort { offset, held: _ } => {
-                return refuse(
-                    stdout,
-                    out,
-                    state,
-                    filled,
-                    records,
-                    refusal::CUT_SHORT,
-                    offset,
-                );
-            }
-            Found::StrangeState => {
-                return refuse(
-                    stdout,
-                    out,
-                    state,
-                    filled,
-                    records,
-                    refusal::STRANGE_STATE,
-                    0,
-                );
-            }
-            Found::End => {
-                let n = put_end(stdout, out, filled, state.offset, records);
-                return Go {
-                    state,
-                    filled: n,
-                    records,
-                    stop: Stop::Told,
-                };
-            }
-            Found::More => {
-                return Go {
-                    state,
-                    filled,
-                    records,
-                    stop: Stop::No,
-                };
-            }
+    // Room for a line: where there is none, the text is written out.
+    fn spare(&mut self) -> Result<(), Stop> {
+        if self.text.bytes.len().saturating_sub(self.text.filled) < LINE {
+            self.flush()?;
         }
+        Ok(())
     }
-    Go {
-        state,
-        filled,
-        records,
-        stop: Stop::No,
+
+    // `OFFSET LENGTH MARK`
+    fn record(&mut self, offset: u64, length: usize, mark: Mark) -> Result<(), Stop> {
+        self.spare()?;
+        self.text.put_decimal(offset);
+        self.text.put(b" ");
+        self.text.put_decimal(length as u64);
+        match mark {
+            Mark::Row => self.text.put(b" row\n"),
+            Mark::Control => self.text.put(b" control\n"),
+        }
+        Ok(())
+    }
+
+    // The last line: `refused NUMBER OFFSET`
+    fn refused(&mut self, number: usize, offset: u64) -> Result<(), Stop> {
+        self.spare()?;
+        self.text.put(b"refused ");
+        self.text.put_decimal(number as u64);
+        self.text.put(b" ");
+        self.text.put_decimal(offset);
+        self.text.put(b"\n");
+        Err(Stop::Told)
+    }
+
+    // The last line: `end TAKEN records COUNT`
+    fn end(&mut self, taken: u64, records: u64) -> Result<(), Stop> {
+        self.spare()?;
+        self.text.put(b"end ");
+        self.text.put_decimal(taken);
+        self.text.put(b" records ");
+        self.text.put_decimal(records);
+        self.text.put(b"\n");
+        Err(Stop::Told)
     }
 }
 
-// What of a piece was taken, or by which number it was refused.
+// Where the program stands: the stream's buffer and state, the records handed out, and the lines about them.
 #[derive(Drop)]
-struct Part {
+struct Stream<'a, 'b> {
+    buf: &'a mut [u8],
     state: State,
-    count: usize,
-    number: usize,
+    records: u64,
+    lines: Lines<'b>,
 }
 
-// What is left of a piece from `from` on, offered.
-fn offered(buf: &mut [u8], piece: &[u8], from: usize, before: State) -> Part
-    requires { from ≤ length piece.now }
-    ensures { from + result.count ≤ length piece.now }
-{
-    let left = piece.len() - from;
-    let t = before.offer(buf, &piece[from..]);
-    let state = t.state;
-    let answer = t.answer;
-    match answer {
-        Taking::Taken { count } => Part {
-            state,
-            count: least(count, left),
-            number: 0,
-        },
-        Taking::StrangeState => Part {
-            state,
-            count: 0,
-            number: refusal::STRANGE_STATE,
-        },
-        Taking::AfterClosing => Part {
-            state,
-            count: 0,
-            number: refusal::AFTER_CLOSING,
-        },
-        Taking::OffsetTooHigh => Part {
-            state,
-            count: 0,
-            number: refusal::OFFSET_TOO_HIGH,
-        },
-    }
-}
-
-fn least(a: usize, b: usize) -> usize
-    ensures { result ≤ b }
-{
-    if a < b { a } else { b }
-}
-
-// One piece, offered until it is taken or next stops.
-fn feed(stdout: Stdout, buf: &mut [u8], out: &mut [u8], piece: &[u8], g: Go) -> Go {
-    let mut h = g;
-    let mut from = 0;
-    while from < piece.len() {
-        let before = h.state;
-        let filled = h.filled;
-        let records = h.records;
-        let p = offered(buf, piece, from, before);
-        let state = p.state;
-        let count = p.count;
-        let number = p.number;
-        let offset = state.offset;
-        if count == 0 {
-            return refuse(stdout, out, state, filled, records, number, offset);
+impl Stream<'_, '_> {
+    // Next, until it wants more or stops.
+    fn drain(&mut self) -> Result<(), Stop> {
+        let mut state = self.state;
+        for _ in 0..u64::MAX {
+            let next = state.next(self.buf);
+            state = next.state;
+            let (number, offset) = match next.answer {
+                Found::Record {
+                    length,
+                    offset,
+                    mark,
+                    ..
+                } => {
+                    self.lines.record(offset, length, mark)?;
+                    self.records = self.records.wrapping_add(1);
+                    continue;
+                }
+                Found::More => break,
+                Found::End => return self.lines.end(state.offset, self.records),
+                Found::Malformed { offset, .. } => (refusal::MALFORMED_RECORD, offset),
+                Found::TooLong { offset, .. } => (refusal::RECORD_TOO_LONG, offset),
+                Found::CutShort { offset, .. } => (refusal::CUT_SHORT, offset),
+                Found::StrangeState => (refusal::STRANGE_STATE, 0),
+            };
+            return self.lines.refused(number, offset);
         }
-        from += count;
-        h = drain(stdout, buf, out, state, filled, records);
-        if !goes_on(&h) {
-            return h;
+        self.state = state;
+        Ok(())
+    }
+
+    // One piece, offered until it is taken or the stream stops.
+    fn feed(&mut self, piece: &[u8]) -> Result<(), Stop> {
+        let mut rest = piece;
+        while !rest.is_empty() {
+            let offered = self.state.offer(self.buf, rest);
+            self.state = offered.state;
+            let number = match offered.answer {
+                Taking::Taken { count } if count > 0 => {
+                    rest = &rest[count.min(rest.len())..];
+                    self.drain()?;
+                    continue;
+                }
+                // No refusal has this number.
+                Taking::Taken { .. } => 0,
+                Taking::StrangeState => refusal::STRANGE_STATE,
+                Taking::AfterClosing => refusal::AFTER_CLOSING,
+                Taking::OffsetTooHigh => refusal::OFFSET_TOO_HIGH,
+            };
+            return self.lines.refused(number, self.state.offset);
         }
+        Ok(())
     }
-    h
-}
 
-// Where no piece is read any more, and why.
-fn stopped(g: Go, stop: Stop) -> Go {
-    let state = g.state;
-    let filled = g.filled;
-    let records = g.records;
-    Go {
-        state,
-        filled,
-        records,
-        stop,
+    // No piece follows: the stream is closed, and next called again until it stops.
+    fn finish(&mut self) -> Result<(), Stop> {
+        self.state = self.state.close(self.buf).state;
+        self.drain()
     }
-}
 
-// One reading of standard input, and the records that it completes.
-fn turn(
-    mut stdin: Stdin,
-    stdout: Stdout,
-    buf: &mut [u8],
-    out: &mut [u8],
-    piece: &mut [u8],
-    g: Go,
-) -> Go {
-    match stdin.read(piece) {
-        Err(_) => stopped(g, Stop::Unread),
-        Ok(0) => stopped(g, Stop::Over),
-        Ok(n) => feed(stdout, buf, out, &piece[..n], g),
-    }
-}
-
-// Whether the stream goes on.
-fn goes_on(g: &Go) -> bool {
-    if g.filled == LOST {
-        return false;
-    }
-    match g.stop {
-        Stop::No => true,
-        Stop::Over => false,
-        Stop::Told => false,
-        Stop::Unread => false,
-    }
-}
-
-// The pieces, to the input's end or the last line.
-fn pieces(
-    stdin: Stdin,
-    stdout: Stdout,
-    buf: &mut [u8],
-    out: &mut [u8],
-    piece: &mut [u8],
-    g: Go,
-) -> Go {
-    let mut h = g;
-    let mut on = true;
-    let mut turns = u64::MAX;
-    while turns > 0 && on {
-        h = turn(stdin, stdout, buf, out, piece, h);
-        on = goes_on(&h);
-        turns -= 1;
-    }
-    h
-}
-
-// At the input's end the stream is closed, and next called again until it stops.
-fn finish(stdout: Stdout, buf: &[u8], out: &mut [u8], g: Go) -> Go {
-    match g.stop {
-        Stop::Over => {
-            let t = g.state.close(buf);
-            drain(stdout, buf, out, t.state, g.filled, g.records)
+    // The pieces, to the input's end or the last line.
+    fn pieces(&mut self, mut stdin: Stdin, piece: &mut [u8]) -> Result<(), Stop> {
+        for _ in 0..u64::MAX {
+            match stdin.read(piece) {
+                Err(_) => return Err(Stop::Unread),
+                Ok(0) => return self.finish(),
+                Ok(n) => self.feed(&piece[..n])?,
+            }
         }
-        Stop::No => g,
-        Stop::Told => g,
-        Stop::Unread => g,
+        Ok(())
     }
 }
 
-// What cannot be written here is told nowhere.
-fn complain(stderr: Stderr, word: &[u8]) {
-    let _ = stderr.write_all(word);
-}
-
-// The whole stream, from its opening to its last line.
-fn stream(stdin: Stdin, stdout: Stdout, buf: &mut [u8], out: &mut [u8], piece: &mut [u8]) -> Go {
-    let opened = reader::open(0, buf);
-    let state = opened.state;
-    let filled = output::put_word(out, 0, b"offset length mark\n");
-    let first = Go {
-        state,
-        filled,
-        records: 0,
-        stop: Stop::No,
-    };
-    pieces(stdin, stdout, buf, out, piece, first)
-}
-
-// The rest of the output, and what went wrong.
-fn conclude(stdout: Stdout, stderr: Stderr, buf: &[u8], out: &mut [u8], g: Go) {
-    let h = finish(stdout, buf, out, g);
-    let stop = h.stop;
-    if !flush(stdout, out, h.filled) {
-        complain(stderr, b"records: the output could not be written\n");
-        return;
-    }
-    match stop {
-        Stop::Unread => complain(
-            stderr,
-            b"records: standard input could not be read to its end\n",
-        ),
-        Stop::No => complain(stderr, b"records: the stream has no end\n"),
-        Stop::Over => {}
-        Stop::Told => {}
-    }
-}
-
+// The whole stream, from its opening to its last line, and what went wrong.
 fn run(rt: HostRuntime, buf: &mut [u8], out: &mut [u8], piece: &mut [u8]) {
-    let g = stream(rt.stdin(), rt.stdout(), buf, out, piece);
-    conclude(rt.stdout(), rt.stderr(), buf, out, g);
+    let state = reader::open(0, buf).state;
+    let mut text = Text::new(out);
+    text.put(b"offset length mark\n");
+    let mut stream = Stream {
+        buf,
+        state,
+        records: 0,
+        lines: Lines {
+            text,
+            stdout: rt.stdout(),
+        },
+    };
+    let stopped = stream.pieces(rt.stdin(), piece);
+    let word: &[u8] = match stream.lines.flush().and(stopped) {
+        Err(Stop::Told) => return,
+        Err(Stop::Unread) => b"records: standard input could not be read to its end\n",
+        Err(Stop::Unwritten) => b"records: the output could not be written\n",
+        Ok(()) => b"records: the stream has no end\n",
+    };
+    // What cannot be written here is told nowhere.
+    let _ = rt.stderr().write_all(word);
 }
 
 fn main(rt: HostRuntime) {

@@ -5,8 +5,9 @@ use mathlib.Core.List.{List, [], ◌∷◌}
 use Rattle.refusal.specs.Paper.{Paper, gives, more, refused}
 use Rattle.refusal.specs.Meaning.{named_by}
 use Rattle.refusal.proofs.Laws.{named_by_its_number}
-use Rattle.scan.specs.declared.Scan.{Scan}
-use Rattle.scan.specs.declared.Scan.TheVariants.{Complete, Incomplete, Refused}
+use Rattle.std.specs.Prelude.{Result, Ok, Err}
+use Rattle.refusal.specs.declared.Unwhole.{Unwhole}
+use Rattle.refusal.specs.declared.Unwhole.TheVariants as w
 use Rattle.scan.specs.Meaning.{scan_meaning}
 
 -- back from what an answer means
@@ -14,16 +15,16 @@ first_of : List ℕ → ℕ
 first_of [] = 0
 first_of (p ∷ vs) = p
 
-scan_back : Paper ℕ → Scan
-scan_back (gives n) = Complete n
-scan_back more = Incomplete
-scan_back (refused n vs) = Refused (named_by n (first_of vs))
+scan_back : Paper ℕ → Result ℕ Unwhole
+scan_back (gives n) = Ok n
+scan_back more = Err w.Incomplete
+scan_back (refused n vs) = Err (w.Refused (named_by n (first_of vs)))
 
-undone : (r : Scan) → scan_back (scan_meaning r) ≡ r
+undone : (r : Result ℕ Unwhole) → scan_back (scan_meaning r) ≡ r
 unfolding scan_back first_of
-undone (Complete n) = refl
-undone Incomplete = refl
-undone (Refused r) = ap Refused (named_by_its_number r)
+undone (Ok n) = refl
+undone (Err w.Incomplete) = refl
+undone (Err (w.Refused r)) = ap (λ x. Err (w.Refused x)) (named_by_its_number r)
 
-pub scan_injective : (r q : Scan) → scan_meaning r ≡ scan_meaning q → r ≡ q
+pub scan_injective : (r q : Result ℕ Unwhole) → scan_meaning r ≡ scan_meaning q → r ≡ q
 scan_injective r q e = sym (undone r) ∙ ap scan_back e ∙ undone q

@@ -3,11 +3,14 @@ use mathlib.Core.Path.{◌≡◌, refl, sym, ap, subst, ◌∙◌}
 use mathlib.Core.Logic.{◌⊎◌, ⊎_elim}
 use Prim.Native.Nat.{ℕ, ◌+◌, ◌≤◌, ◌<◌}
 use mathlib.Core.Bool.{Bool, true, false}
-use mathlib.Core.List.{List, ◌∷◌}
+use mathlib.Core.List.{List, [], ◌∷◌}
+use Rattle.std.specs.Prelude.{Option, Some}
 use native.Mathlib.Omega.{arith}
 use lib.ListN.{length, get_or}
 use Rattle.refusal.specs.Numbers.{too_deep}
-use Rattle.refusal.specs.Paper.{Paper, pick}
+use Rattle.refusal.specs.Paper.{Paper, gives, refused, pick}
+use Rattle.refusal.specs.Meaning.{unwhole_meaning}
+use Rattle.refusal.specs.declared.Unwhole.{Unwhole}
 use Rattle.refusal.specs.declared.Format.{Format}
 use Rattle.refusal.specs.declared.Format.TheVariants.{Binary}
 use Rattle.token.specs.Meaning.{kinds_of}
@@ -17,7 +20,7 @@ use Rattle.lexer.specs.Lexer.{token_from, kind_at, skip_of, map_opens, attribute
 use Rattle.automaton.specs.Limit.{most_open}
 use Rattle.automaton.specs.Step.{map, attributes, value, key, equals, go}
 use Rattle.scan.specs.Walk.{arrive, walk}
-use Rattle.scan.specs.Post.{answer_of, Begun, Pairs, Along, block_of, due_of}
+use Rattle.scan.specs.Post.{Begun, Pairs, Along, block_of, due_of}
 use Rattle.scan.proofs.Arms.{opens_attributes_lem, opens_map, map_closed, equals_is, key_next, after_key}
 use Rattle.scan.proofs.Tokens.{skip_on, skip_here}
 use Rattle.scan.proofs.Laws.{walk_skip}
@@ -31,24 +34,24 @@ apart e = let z : ◌≡◌ {A = ℕ} 0 1 = ap (λ (b : Bool). pick b 0 1) e in 
 
 module _ (f : Format) (s : List ℕ) (p : ℕ) (here : skip_of f s p ≡ p) (depth : ℕ) (c : Bool) (within : p < length s)
     (opens : (get_or s p 0 ≡ 0x3C) ⊎ (get_or s p 0 ≡ 0x7B)) (once : get_or s p 0 ≡ 0x3C → c ≡ false) where
-  pub pairs_too : depth ≡ most_open → Begun f s p depth c (answer_of 0 too_deep p)
+  pub pairs_too : depth ≡ most_open → Begun f s p depth c (refused too_deep (p ∷ []))
   pairs_too g = ⊎_elim (λ e. too f s p here depth attributes_open attributes (due_of c) key within e (opens_attributes_lem c (once e)) g) (λ e. too f s p here depth map_opens map (due_of c) key within e (opens_map c) g) opens
 
   module _ (few : depth ≤ most_open) (room : depth ≡ most_open → ⊥) where
     pairs_map : {r : Paper ℕ} → (get_or s p 0 ≡ 0x3C → ⊥) → Pairs f s (p + 1) (depth + 1) false r → Begun f s p depth c r
     pairs_map h x = begun_in f s p here depth c map map_closed (into f s p here depth map_opens map (due_of c) key within (⊎_elim (λ e. absurd (h e)) (λ e. e) opens) (opens_map c) few room x)
 
-    pub pairs_stop : (a : Bool) (q n m : ℕ) → (a ≡ true → get_or s p 0 ≡ 0x3C) → (a ≡ false → get_or s p 0 ≡ 0x3C → ⊥) → Pairs f s (p + 1) (depth + 1) a (answer_of q n m) → q ≡ 0 → Begun f s p depth c (answer_of 0 n m)
-    pairs_stop true q n m t u x z = begun_attributed f s p here depth c (once (t refl)) within (t refl) few room (stop q n m (attributed_in f s (p + 1) depth x) z)
-    pairs_stop false q n m t u x z = stop q n m (pairs_map (u refl) x) z
+    pub pairs_stop : (a : Bool) (w : Unwhole) → (a ≡ true → get_or s p 0 ≡ 0x3C) → (a ≡ false → get_or s p 0 ≡ 0x3C → ⊥) → Pairs f s (p + 1) (depth + 1) a (unwhole_meaning w) → Begun f s p depth c (unwhole_meaning w)
+    pairs_stop true w t u x = begun_attributed f s p here depth c (once (t refl)) within (t refl) few room (stop w (attributed_in f s (p + 1) depth x))
+    pairs_stop false w t u x = stop w (pairs_map (u refl) x)
 
     pub pairs_whole : (a : Bool) {r : Paper ℕ} → a ≡ false → (a ≡ false → get_or s p 0 ≡ 0x3C → ⊥) → Pairs f s (p + 1) (depth + 1) a r → Begun f s p depth c r
     pairs_whole true {r} e u x = pairs_map (u e) (subst (λ (a : Bool). Pairs f s (p + 1) (depth + 1) a r) e x)
     pairs_whole false e u x = pairs_map (u refl) x
 
-    pub pairs_then : (a : Bool) {r : Paper ℕ} (q n m o : ℕ) → a ≡ true → (a ≡ true → get_or s p 0 ≡ 0x3C) → Pairs f s (p + 1) (depth + 1) a (answer_of q n m) → (q ≡ 0 → ⊥) → o ≡ skip_of f s q → Begun f s o depth true r → Begun f s p depth c r
-    pairs_then true q n m o e t x z i y = begun_attributed f s p here depth c (once (t refl)) within (t refl) few room (attributed_then f s (p + 1) depth q n m o x z i y)
-    pairs_then false q n m o e t x z i y = begun_attributed f s p here depth c (once (t e)) within (t e) few room (attributed_then f s (p + 1) depth q n m o (subst (λ (a : Bool). Pairs f s (p + 1) (depth + 1) a (answer_of q n m)) e x) z i y)
+    pub pairs_then : (a : Bool) {r : Paper ℕ} (q o : ℕ) → a ≡ true → (a ≡ true → get_or s p 0 ≡ 0x3C) → Pairs f s (p + 1) (depth + 1) a (gives q) → o ≡ skip_of f s q → Begun f s o depth true r → Begun f s p depth c r
+    pairs_then true q o e t x i y = begun_attributed f s p here depth c (once (t refl)) within (t refl) few room (attributed_then f s (p + 1) depth q o x i y)
+    pairs_then false q o e t x i y = begun_attributed f s p here depth c (once (t e)) within (t e) few room (attributed_then f s (p + 1) depth q o (subst (λ (a : Bool). Pairs f s (p + 1) (depth + 1) a (gives q)) e x) i y)
 
 -- 2. Pairs passed at once
 
@@ -67,30 +70,30 @@ module _ (s : List ℕ) where
   unfolding skip_of
   bare p = refl
 
-  pub key_ends : (p q : ℕ) → q ≡ string_end (kinds_of (binary_from s p)) → q ≡ string_end (kind_at Binary s p)
+  pub key_ends : (p : ℕ) (q : Option ℕ) → q ≡ string_end (kinds_of (binary_from s p)) → q ≡ string_end (kind_at Binary s p)
   unfolding kind_at token_from
   key_ends p q e = e
 
-  pub value_ends : (p q : ℕ) → q ≡ scalar_end (kinds_of (binary_from s p)) → q ≡ scalar_end (kind_at Binary s p)
+  pub value_ends : (p : ℕ) (q : Option ℕ) → q ≡ scalar_end (kinds_of (binary_from s p)) → q ≡ scalar_end (kind_at Binary s p)
   unfolding kind_at token_from
   value_ends p q e = e
 
 -- a key up to k, `=` at p and a scalar up to q
-module _ (f : Format) (s : List ℕ) (from at k p q : ℕ) (until : Along f s from at) (key_is : k ≡ string_end (kind_at f s at)) (some : k ≡ 0 → ⊥) (skips : p ≡ skip_of f s k)
-    (within : p < length s) (byte : get_or s p 0 ≡ 0x3D) (value_is : q ≡ scalar_end (kind_at f s (p + 1))) (any : q ≡ 0 → ⊥) where
+module _ (f : Format) (s : List ℕ) (from at k p q : ℕ) (until : Along f s from at) (key_is : Some k ≡ string_end (kind_at f s at)) (skips : p ≡ skip_of f s k)
+    (within : p < length s) (byte : get_or s p 0 ≡ 0x3D) (value_is : Some q ≡ scalar_end (kind_at f s (p + 1))) where
   pub along_pair : Along f s from q
   unfolding arrive
   along_pair =
-      let g = string_run f s at k some key_is in
-      let h = scalar_run f s (p + 1) q any false value_is in (
+      let g = string_run f s at k key_is in
+      let h = scalar_run f s (p + 1) q false value_is in (
         omega (arith, until.0, g.1, h.1, skip_on f s k p skips),
         λ b K. until.1 b K ∙ g.0 (block_of b ∷ K) ∙ walk_skip f s k (block_of b ∷ K) equals p skips ∙ on f s p (skip_here f s k p skips) equals_stands within byte (block_of b ∷ K) equals (go (block_of b ∷ K) value) (equals_is (block_of b ∷ K)) ∙ h.0 (block_of b ∷ K) ∙ ap (arrive (walk f s) q q) (after_key b K),
       )
 
   pub pair_grows : (at < q) × (q ≤ length s)
   pair_grows =
-      let g = string_run f s at k some key_is in
-      let h = scalar_run f s (p + 1) q any false value_is in
+      let g = string_run f s at k key_is in
+      let h = scalar_run f s (p + 1) q false value_is in
       (omega (arith, g.1, h.1, skip_on f s k p skips), h.2)
 
   -- and `;` at r

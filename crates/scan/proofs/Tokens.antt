@@ -4,6 +4,7 @@ use mathlib.Core.Path.{◌≡◌, refl, sym, ap, ◌∙◌}
 use Prim.Native.Nat.{ℕ, ◌≤◌, ◌<◌}
 use mathlib.Core.List.{List}
 use native.Mathlib.Omega.{arith}
+use Rattle.std.specs.Prelude.{Some, None}
 use lib.ListN.{length, get_or}
 use Rattle.refusal.specs.Paper.{Paper, gives, more, refused, Spot, spot}
 use Rattle.refusal.specs.declared.Format.{Format}
@@ -31,20 +32,20 @@ module _ (f : Format) (s : List ℕ) where
     not_mark {k = k} m h i = h (ap (λ (q : ℕ). get_or s q 0) (sym (first_is f s p read ∙ here)) ∙ mark_only f s p m (read ∙ ap (λ (k : Kind). gives (spot k a n)) i))
 
     -- nor, where no scalar ends, a string or another scalar
-    pub no_text : (q : ℕ) → q ≡ string_end (kind_at f s p) → q ≡ 0 → j ≡ Text → ⊥
-    no_text q e z i = let x : q ≡ n = e ∙ ap string_end (read ∙ ap (λ (k : Kind). gives (spot k a n)) i) in let g = token_grows p read in omega (arith, g.0)
+    pub no_text : None ≡ string_end (kind_at f s p) → j ≡ Text → ⊥
+    no_text e i = let x : None ≡ Some n = e ∙ ap string_end (read ∙ ap (λ (k : Kind). gives (spot k a n)) i) in cc
 
-    pub no_scalar : (q : ℕ) → q ≡ scalar_end (kind_at f s p) → q ≡ 0 → (j ≡ Text → ⊥) × (j ≡ Scalar → ⊥)
-    no_scalar q e z = (λ i. no (e ∙ ap scalar_end (read ∙ ap (λ (k : Kind). gives (spot k a n)) i)), λ i. no (e ∙ ap scalar_end (read ∙ ap (λ (k : Kind). gives (spot k a n)) i)))
+    pub no_scalar : None ≡ scalar_end (kind_at f s p) → (j ≡ Text → ⊥) × (j ≡ Scalar → ⊥)
+    no_scalar e = (λ i. no (e ∙ ap scalar_end (read ∙ ap (λ (k : Kind). gives (spot k a n)) i)), λ i. no (e ∙ ap scalar_end (read ∙ ap (λ (k : Kind). gives (spot k a n)) i)))
       where
-        no : q ≡ n → ⊥
-        no x = let g = token_grows p read in omega (arith, g.0)
+        no : None ≡ Some n → ⊥
+        no x = cc
 
 -- a string, another scalar, or neither
 pub data Ending : Paper (Spot Kind) → Type 0 where
   text_ends : {a n : ℕ} → Ending (gives (spot Text a n))
   scalar_ends : {a n : ℕ} → Ending (gives (spot Scalar a n))
-  none_ends : {t : Paper (Spot Kind)} → string_end t ≡ 0 → scalar_end t ≡ 0 → Ending t
+  none_ends : {t : Paper (Spot Kind)} → string_end t ≡ None → scalar_end t ≡ None → Ending t
 
 pub ending : (t : Paper (Spot Kind)) → Ending t
 ending (gives (spot Text a n)) = text_ends

@@ -1,12 +1,10 @@
 -- What the answer of a scan means.
-use Rattle.std.specs.Prelude.{ℕ}
-use Rattle.refusal.specs.Paper.{Paper, gives, more}
-use Rattle.refusal.specs.Meaning.{refusal_meaning}
-use Rattle.scan.specs.declared.Scan.{Scan}
-use Rattle.scan.specs.declared.Scan.TheVariants.{Complete, Incomplete, Refused}
+use Rattle.std.specs.Prelude.{ℕ, Result, Ok, Err}
+use Rattle.refusal.specs.Paper.{Paper, gives}
+use Rattle.refusal.specs.Meaning.{unwhole_meaning}
+use Rattle.refusal.specs.declared.Unwhole.{Unwhole}
 
 -- the length of the first value, more bytes are needed, or a refusal
-abbrev pub scan_meaning : Scan → Paper ℕ
-scan_meaning (Complete len) = gives len
-scan_meaning Incomplete = more
-scan_meaning (Refused r) = refusal_meaning r
+abbrev pub scan_meaning : Result ℕ Unwhole → Paper ℕ
+scan_meaning (Ok len) = gives len
+scan_meaning (Err e) = unwhole_meaning e

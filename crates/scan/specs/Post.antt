@@ -1,23 +1,23 @@
 -- What the private functions of the scan say. Each answers for a part of a value, in every stack of open blocks that may stand around
 -- it: the run that starts before the part is the run that goes on behind it.
-use Rattle.std.specs.Prelude.{◌≡◌, ℕ, zero, suc, ◌≤◌, Bool, true, false, List, [], ◌∷◌, length}
+use Rattle.std.specs.Prelude.{◌≡◌, ℕ, suc, ◌≤◌, Bool, true, false, List, [], ◌∷◌, length, Option, Some, None}
 use Rattle.refusal.specs.Numbers.{too_deep}
 use Rattle.refusal.specs.Paper.{Paper, gives, more, refused, Spot, spot}
+use Rattle.refusal.specs.Meaning.{unwhole_meaning}
 use Rattle.refusal.specs.declared.Format.{Format}
+use Rattle.refusal.specs.declared.Unwhole.{Unwhole}
 use Rattle.token.specs.declared.Kind.{Kind}
 use Rattle.automaton.specs.Step.{Block, list, map, attributes, Due, value, object, item, key, equals, Step, after, closed}
 use Rattle.scan.specs.Walk.{walk, arrive}
 
--- the answer of an end, a refusal's number and its place. The end 0 says that the part is not whole, and then the number 0 that the
--- bytes ended; where the part is whole, number and place say nothing
-unfoldable pub answer_of : ℕ → ℕ → ℕ → Paper ℕ
-answer_of zero zero place = more
-answer_of zero (suc n) place = refused (suc n) (place ∷ [])
-answer_of (suc q) n place = gives (suc q)
+-- the answer of an end; where there is none the part is not whole, and w says why
+abbrev pub answer_of : Option ℕ → Unwhole → Paper ℕ
+answer_of (Some q) w = gives q
+answer_of None w = unwhole_meaning w
 
 -- why a part stops at a token that is not due, or not whole
 unfoldable pub why_of : ℕ → Paper (Spot Kind) → Paper ℕ
-why_of wrong (gives (spot k first next)) = answer_of 0 wrong next
+why_of wrong (gives (spot k first next)) = refused wrong (next ∷ [])
 why_of wrong more = more
 why_of wrong (refused n vs) = refused n vs
 

@@ -1,10 +1,11 @@
 // Where does the next value end, and is there a whole one at all? The automaton of crate `automaton`, run by specs/Walk, decides (`scan_of`).
 // Each token that is passed is read once, or twice where it is a key before a block, and no value is made of it; the one at which a scan
-// stops is read again, to say why. The private functions answer one number, the end of a part, or 0 where the part is not whole; then `no`
-// and `place` say why: a refusal's number and its place, or the number 0 where the bytes ended. Where the part is whole they say nothing.
+// stops is read again, to say why. The private functions answer the end of a part; where the part is not whole they answer none, and `why`
+// says why.
 #![tactic(auto)]
 
 ghost use Rattle.std.specs.Prelude.{◌≡◌, true, false, ◌⊎◌, ◌≤◌, ◌<◌, length};
+ghost use Rattle.refusal.specs.Meaning.{why_number, unwhole_meaning};
 ghost use Rattle.refusal.specs.declared.Format.TheVariants.{Binary, Text};
 ghost use Rattle.token.specs.Ends.{string_end, scalar_end};
 ghost use Rattle.lexer.specs.Lexer.{kind_at, skip_of};
@@ -13,78 +14,40 @@ ghost use Rattle.scan.specs.Walk.{scan_of};
 ghost use Rattle.scan.specs.Meaning.{scan_meaning};
 ghost use Rattle.scan.specs.Post.{answer_of, why_of, Tree, Begun, Pair, Items, Along, Pairs};
 
-use refusal::{Format, Refusal};
-use token::Read;
+use refusal::{Format, Refusal, Unread, Unwhole, Why};
+use token::Placed;
 
 // How many blocks may be open at once.
 const MOST_OPEN: usize = 128;
 
-// What the scan for one value answers.
-#[derive(Clone, Copy)]
-pub enum Scan {
-    // A whole value, with what is ignored before it, takes the first `len` bytes.
-    Complete { len: usize },
-    // The bytes ended inside the value, or before it.
-    Incomplete,
-    // The bytes are no value.
-    Refused { refusal: Refusal },
-}
+// What the scan for one value answers: how many bytes it takes, with what is ignored before it, or why there is no whole one.
+pub type Scan = Result<usize, Unwhole>;
 
 // The length of the first value of the input. The input is only read, so a refusal leaves nothing behind.
 pub fn scan_value(input: &[u8], format: Format) -> Scan
     ensures { scan_meaning result ≡ scan_of format input.now }
 {
-    let mut no: usize = 0;
-    let mut place: usize = 0;
+    // Kept: a Result out of each private function comes back through memory, and nested values took 1.15 to 1.20 of the time (0.46 of the
+    // Rust's, where the aim is 0.45); so they answer an Option, and `why` is lent.
+    let mut why = Unwhole::Incomplete;
     let p = lexer::skip(input, 0, format);
-    let len = scan_begun(input, p, 0, false, format, &mut no, &mut place);
-    if len != 0 {
-        return Scan::Complete { len };
-    }
-    if no == 0 {
-        return Scan::Incomplete;
-    }
-    Scan::Refused {
-        refusal: refusal::refusal_of(no, place),
+    match scan_begun(input, p, 0, false, format, &mut why) {
+        Some(len) => Ok(len),
+        None => Err(why),
     }
 }
 
 // Why no part goes on at the token at `p`: the token is not whole, or it is and it is not due, which is refused as `wrong`. The token is
-// read again here, by the full reader; this is called at most once in a scan. It answers 0.
-fn why(
-    input: &[u8],
-    p: usize,
-    wrong: usize,
-    format: Format,
-    no: &mut usize,
-    place: &mut usize,
-) -> usize
+// read again here, by the full reader; this is called at most once in a scan.
+fn stop_at(input: &[u8], p: usize, wrong: Why, format: Format) -> Unwhole
     requires { p < length input.now }
-    ensures { answer_of result no.new place.new ≡ why_of wrong (kind_at format input.now p) }
+    ensures { unwhole_meaning result ≡ why_of (why_number wrong) (kind_at format input.now p) }
 {
     match lexer::next_token(input, p, format) {
-        Read::Token {
-            token: _,
-            first: _,
-            next,
-        } => {
-            *no = wrong;
-            *place = next;
-            return 0;
-        }
-        Read::Incomplete => {
-            *no = 0;
-            return 0;
-        }
-        Read::Refused { refusal } => {
-            *no = refusal.number();
-            *place = refusal.place();
-            return 0;
-        }
-        Read::Beyond => {
-            *no = 0;
-            return 0;
-        }
+        Ok(Placed { next, .. }) => Unwhole::Refused(wrong.at(next)),
+        Err(Unread::Refused(refusal)) => Unwhole::Refused(refusal),
+        Err(Unread::Incomplete) => Unwhole::Incomplete,
+        Err(Unread::Beyond) => Unwhole::Incomplete,
     }
 }
 
@@ -95,47 +58,34 @@ fn scan_tree(
     at: usize,
     depth: usize,
     format: Format,
-    no: &mut usize,
-    place: &mut usize,
-) -> usize
+    why: &mut Unwhole,
+) -> Option<usize>
     requires { depth ≤ most_open }
-    ensures { Tree format input.now at depth (answer_of result no.new place.new) }
+    ensures { Tree format input.now at depth (answer_of result why.new) }
 {
     let p = lexer::skip(input, at, format);
-    scan_begun(input, p, depth, false, format, no, place)
+    scan_begun(input, p, depth, false, format, why)
 }
 
 // Does a map or an attribute block start with this byte?
 fn opens_pairs(b: u8) -> bool
     ensures { (result ≡ true → (b ≡ 0x3C) ⊎ (b ≡ 0x7B)) × (result ≡ false → (b ≡ 0x3C → ⊥) × (b ≡ 0x7B → ⊥)) }
 {
-    if b == b'<' {
-        return true;
-    }
-    if b == b'{' {
-        return true;
-    }
-    false
+    b == b'<' || b == b'{'
 }
 
 // Does an attribute block start with it?
 fn opens_attributes(b: u8) -> bool
     ensures { (result ≡ true → b ≡ 0x3C) × (result ≡ false → b ≡ 0x3C → ⊥) }
 {
-    if b == b'<' {
-        return true;
-    }
-    false
+    b == b'<'
 }
 
 // Does an attribute block start with it where one was passed already?
 fn second_attributes(b: u8, passed: bool) -> bool
     ensures { (result ≡ true → (b ≡ 0x3C) × (passed ≡ true)) × (result ≡ false → b ≡ 0x3C → passed ≡ false) }
 {
-    if b == b'<' {
-        return passed;
-    }
-    false
+    b == b'<' && passed
 }
 
 // The value whose first token stands at `p`; where `passed`, behind its attributes.
@@ -146,50 +96,51 @@ fn scan_begun(
     depth: usize,
     passed: bool,
     format: Format,
-    no: &mut usize,
-    place: &mut usize,
-) -> usize
+    why: &mut Unwhole,
+) -> Option<usize>
     requires { (depth ≤ most_open) × (skip_of format input.now p ≡ p) }
-    ensures { Begun format input.now p depth passed (answer_of result no.new place.new) }
+    ensures { Begun format input.now p depth passed (answer_of result why.new) }
 {
     if input.len() <= p {
-        *no = 0;
-        return 0;
+        *why = Unwhole::Incomplete;
+        return None;
     }
     let b = input[p];
     if b == b'[' {
         if depth == MOST_OPEN {
-            *no = refusal::TOO_DEEP;
-            *place = p;
-            return 0;
+            *why = Unwhole::Refused(Refusal {
+                why: Why::TooDeep,
+                place: p,
+            });
+            return None;
         }
-        return scan_list(input, p + 1, depth + 1, format, no, place);
+        return scan_list(input, p + 1, depth + 1, format, why);
     }
     if second_attributes(b, passed) {
-        return why(input, p, refusal::NOT_VALUE, format, no, place);
+        *why = stop_at(input, p, Why::NotValue, format);
+        return None;
     }
     if opens_pairs(b) {
         if depth == MOST_OPEN {
-            *no = refusal::TOO_DEEP;
-            *place = p;
-            return 0;
+            *why = Unwhole::Refused(Refusal {
+                why: Why::TooDeep,
+                place: p,
+            });
+            return None;
         }
         let attributes = opens_attributes(b);
-        let end = scan_fragment(input, p + 1, depth + 1, attributes, format, no, place);
-        if end == 0 {
-            return 0;
-        }
+        let end = scan_fragment(input, p + 1, depth + 1, attributes, format, why)?;
         if attributes {
             let o = lexer::skip(input, end, format);
-            return scan_attributed(input, o, depth, format, no, place);
+            return scan_attributed(input, o, depth, format, why);
         }
-        return end;
+        return Some(end);
     }
-    let end = lexer::scalar_end(input, p, format);
-    if end == 0 {
-        return why(input, p, refusal::NOT_VALUE, format, no, place);
-    }
-    end
+    let Some(end) = lexer::scalar_end(input, p, format) else {
+        *why = stop_at(input, p, Why::NotValue, format);
+        return None;
+    };
+    Some(end)
 }
 
 // The value behind an attribute block, whose first token stands at `p`.
@@ -199,13 +150,12 @@ fn scan_attributed(
     p: usize,
     depth: usize,
     format: Format,
-    no: &mut usize,
-    place: &mut usize,
-) -> usize
+    why: &mut Unwhole,
+) -> Option<usize>
     requires { (depth ≤ most_open) × (skip_of format input.now p ≡ p) }
-    ensures { Begun format input.now p depth true (answer_of result no.new place.new) }
+    ensures { Begun format input.now p depth true (answer_of result why.new) }
 {
-    scan_begun(input, p, depth, true, format, no, place)
+    scan_begun(input, p, depth, true, format, why)
 }
 
 // The rest of a list, up to and with its `]`.
@@ -215,37 +165,30 @@ fn scan_list(
     from: usize,
     depth: usize,
     format: Format,
-    no: &mut usize,
-    place: &mut usize,
-) -> usize
+    why: &mut Unwhole,
+) -> Option<usize>
     requires { depth ≤ most_open }
-    ensures { Items format input.now from depth (answer_of result no.new place.new) }
+    ensures { Items format input.now from depth (answer_of result why.new) }
 {
     let mut at = from;
     loop {
         let p = lexer::skip(input, at, format);
         if input.len() <= p {
-            *no = 0;
-            return 0;
+            *why = Unwhole::Incomplete;
+            return None;
         }
         let b = input[p];
         if b == b']' {
-            return p + 1;
+            return Some(p + 1);
         }
         if b == b';' {
             at = p + 1;
         } else {
-            // Most items are scalars, so they are tried before the call; a block's first byte is enough to answer 0 here.
-            let end = lexer::scalar_end(input, p, format);
-            if end == 0 {
-                let next = scan_begun(input, p, depth, false, format, no, place);
-                if next == 0 {
-                    return 0;
-                }
-                at = next;
-            } else {
-                at = end;
-            }
+            // Most items are scalars, so they are tried before the call; a block's first byte is enough to answer none here.
+            at = match lexer::scalar_end(input, p, format) {
+                Some(end) => end,
+                None => scan_begun(input, p, depth, false, format, why)?,
+            };
         }
     }
 }
@@ -256,20 +199,18 @@ fn past_flat(input: &[u8], from: usize) -> usize
 {
     let mut at = from;
     loop {
-        let key = binary_ends::short_string_end(input, at);
-        if key == 0 {
+        let Some(key) = binary_ends::short_string_end(input, at) else {
             return at;
-        }
+        };
         if input.len() <= key {
             return at;
         }
         if input[key] != b'=' {
             return at;
         }
-        let end = binary_ends::scalar_end(input, key + 1);
-        if end == 0 {
+        let Some(end) = binary_ends::scalar_end(input, key + 1) else {
             return at;
-        }
+        };
         if input.len() <= end {
             return end;
         }
@@ -280,27 +221,27 @@ fn past_flat(input: &[u8], from: usize) -> usize
     }
 }
 
-// The place after the key at a place of a text; 0 where no whole string stands there. Most keys are unquoted, and a letter there
-// needs no look for blanks.
-fn key_end(input: &[u8], at: usize) -> usize
+// The place after the key at a place of a text, where a whole string stands. Most keys are unquoted, and a letter there needs no look
+// for blanks.
+fn key_end(input: &[u8], at: usize) -> Option<usize>
     ensures { result ≡ string_end (kind_at Text input.now at) }
 {
     if at < input.len() {
         if words::is_letter(input[at]) {
-            return words::plain_end(input, at);
+            return Some(words::plain_end(input, at));
         }
     }
     let p = lexer::skip(input, at, Format::Text);
     if p < input.len() {
         if words::is_letter(input[p]) {
-            return words::plain_end(input, p);
+            return Some(words::plain_end(input, p));
         }
     }
     lexer::string_end(input, p, Format::Text)
 }
 
-// The place after the scalar at a place of a text; 0 where no whole one stands there. Most are quoted.
-fn value_end(input: &[u8], at: usize) -> usize
+// The place after the scalar at a place of a text, where a whole one stands. Most are quoted.
+fn value_end(input: &[u8], at: usize) -> Option<usize>
     ensures { result ≡ scalar_end (kind_at Text input.now at) }
 {
     let p = lexer::skip(input, at, Format::Text);
@@ -318,10 +259,9 @@ fn past_text(input: &[u8], from: usize) -> usize
 {
     let mut at = from;
     loop {
-        let key = key_end(input, at);
-        if key == 0 {
+        let Some(key) = key_end(input, at) else {
             return at;
-        }
+        };
         let p = lexer::skip(input, key, Format::Text);
         if input.len() <= p {
             return at;
@@ -329,10 +269,9 @@ fn past_text(input: &[u8], from: usize) -> usize
         if input[p] != b'=' {
             return at;
         }
-        let end = value_end(input, p + 1);
-        if end == 0 {
+        let Some(end) = value_end(input, p + 1) else {
             return at;
-        }
+        };
         let q = lexer::skip(input, end, Format::Text);
         if input.len() <= q {
             return end;
@@ -362,45 +301,42 @@ fn scan_fragment(
     depth: usize,
     attributes: bool,
     format: Format,
-    no: &mut usize,
-    place: &mut usize,
-) -> usize
+    why: &mut Unwhole,
+) -> Option<usize>
     requires { depth ≤ most_open }
-    ensures { Pairs format input.now from depth attributes (answer_of result no.new place.new) }
+    ensures { Pairs format input.now from depth attributes (answer_of result why.new) }
 {
     let mut at = from;
     loop {
         let q = past_pairs(input, at, format);
         let p = lexer::skip(input, q, format);
         if input.len() <= p {
-            *no = 0;
-            return 0;
+            *why = Unwhole::Incomplete;
+            return None;
         }
         let b = input[p];
         if b == b'}' {
             if attributes {
-                return why(input, p, refusal::NOT_KEY, format, no, place);
+                *why = stop_at(input, p, Why::NotKey, format);
+                return None;
             }
-            return p + 1;
+            return Some(p + 1);
         }
         if b == b'>' {
             if attributes {
-                return p + 1;
+                return Some(p + 1);
             }
-            return why(input, p, refusal::NOT_KEY, format, no, place);
+            *why = stop_at(input, p, Why::NotKey, format);
+            return None;
         }
         if b == b';' {
             at = p + 1;
         } else {
-            let key = lexer::string_end(input, p, format);
-            if key == 0 {
-                return why(input, p, refusal::NOT_KEY, format, no, place);
-            }
-            let next = scan_pair(input, key, depth, format, no, place);
-            if next == 0 {
-                return 0;
-            }
-            at = next;
+            let Some(key) = lexer::string_end(input, p, format) else {
+                *why = stop_at(input, p, Why::NotKey, format);
+                return None;
+            };
+            at = scan_pair(input, key, depth, format, why)?;
         }
     }
 }
@@ -412,19 +348,19 @@ fn scan_pair(
     at: usize,
     depth: usize,
     format: Format,
-    no: &mut usize,
-    place: &mut usize,
-) -> usize
+    why: &mut Unwhole,
+) -> Option<usize>
     requires { depth ≤ most_open }
-    ensures { Pair format input.now at depth (answer_of result no.new place.new) }
+    ensures { Pair format input.now at depth (answer_of result why.new) }
 {
     let p = lexer::skip(input, at, format);
     if input.len() <= p {
-        *no = 0;
-        return 0;
+        *why = Unwhole::Incomplete;
+        return None;
     }
     if input[p] == b'=' {
-        return scan_tree(input, p + 1, depth, format, no, place);
+        return scan_tree(input, p + 1, depth, format, why);
     }
-    why(input, p, refusal::NOT_EQUALS, format, no, place)
+    *why = stop_at(input, p, Why::NotEquals, format);
+    None
 }

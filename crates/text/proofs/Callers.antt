@@ -7,6 +7,7 @@ use mathlib.Core.List.{List, [], ◌∷◌}
 use Prim.Native.Nat.{ℕ, suc, ◌≤◌, ◌<◌}
 use native.Mathlib.Omega.{arith}
 use lib.Dec.{eqb, lit≤}
+use Rattle.std.specs.Prelude.{Some}
 use lib.ListN.{length, get_or}
 use Rattle.refusal.specs.Numbers.{bad_byte, unknown_word}
 use Rattle.refusal.specs.Paper.{Paper, gives, more, refused, Spot, spot, pick}
@@ -108,7 +109,7 @@ module _ (s : List ℕ) (at p : ℕ) (e : p ≡ skip_from s at) (h : p < length 
   unfolding text_from
   begins = ap (started_at s) (sym e) ∙ something_started s p h
 
-  pub letter_ends : is_letter (get_or s p 0) ≡ true → plain_end s p ≡ string_end (kinds_of (text_from s at))
+  pub letter_ends : is_letter (get_or s p 0) ≡ true → Some (plain_end s p) ≡ string_end (kinds_of (text_from s at))
   unfolding plain_at
   letter_ends l =
       let t = letter_starts (get_or s p 0) l in

@@ -6,6 +6,7 @@ use mathlib.Core.List.{List, []}
 use Prim.Native.Nat.{ℕ, ◌≤◌, ◌<◌}
 use native.Mathlib.Omega.{arith}
 use lib.Dec.{eqb, leb}
+use Rattle.std.specs.Prelude.{None}
 use lib.ListN.{length, get_or}
 use borrow.Author.Tests.{lt-ltb, le-ltb, le-leb, lt-leb, eq-eqb, ne_eqb}
 use Rattle.refusal.specs.Numbers.{beyond_slice}
@@ -140,9 +141,9 @@ module _ (s : List ℕ) (p : ℕ) where
   number_scalar_end = sym (scalars_end (number_at s p) number_scalar)
 
   abbrev NoString : Paper (Spot Token) → Type 0
-  NoString q = string_end (kinds_of q) ≡ 0
+  NoString q = string_end (kinds_of q) ≡ None
 
-  pub no_string : (b : ℕ) → (b ≡ quote → ⊥) → starts_plain b ≡ false → string_end (kinds_of (started s p b)) ≡ 0
+  pub no_string : (b : ℕ) → (b ≡ quote → ⊥) → starts_plain b ≡ false → string_end (kinds_of (started s p b)) ≡ None
   unfolding started
   no_string b nq e =
       rw (ne_eqb b quote nq, e)

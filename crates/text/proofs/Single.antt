@@ -8,6 +8,7 @@ use native.Mathlib.Numerals.{add-one}
 use borrow.Author.Tests.{le-leb, le-ltb, ne_eqb}
 use lib.Dec.{lit≤}
 use lib.Seq.{drop-cons}
+use Rattle.std.specs.Prelude.{Some}
 use lib.ListN.{length, get_or, drop}
 use Rattle.refusal.specs.Paper.{Paper, Spot}
 use Rattle.token.specs.declared.Token.{Token}
@@ -72,11 +73,11 @@ module _ (d : ℕ) (a : 48 ≤ d) (b : d ≤ 57) where
   is_int = rw (no_minus, no_sign, up_to)
 
   -- the number that a digit and a `;` are ends behind the digit
-  from_digit : (p : ℕ) (l : List ℕ) → end_of (number_of p (d ∷ 59 ∷ l)) ≡ p + 1
+  from_digit : (p : ℕ) (l : List ℕ) → end_of (number_of p (d ∷ 59 ∷ l)) ≡ Some (p + 1)
   unfolding number_of number_text int64_text any
   from_digit p l = rw (front_is l, past_is l, no_point, is_int) refl
 
-pub one_digit_lem : (s : List ℕ) (p : ℕ) → p + 1 < length s → 48 ≤ get_or s p 0 → get_or s p 0 ≤ 57 → get_or s (p + 1) 0 ≡ 59 → p + 1 ≡ end_of (number_at s p)
+pub one_digit_lem : (s : List ℕ) (p : ℕ) → p + 1 < length s → 48 ≤ get_or s p 0 → get_or s p 0 ≤ 57 → get_or s (p + 1) 0 ≡ 59 → Some (p + 1) ≡ end_of (number_at s p)
 unfolding number_at
 one_digit_lem s p h a b e =
     sym

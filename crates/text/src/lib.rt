@@ -2,7 +2,7 @@
 // The definition is `text_from` (specs/Text.antt): the first byte says which of the readers below is asked.
 #![tactic(auto)]
 
-ghost use Rattle.std.specs.Prelude.{◌≡◌, true, ◌+◌, ◌≤◌, ◌<◌, length, get_or};
+ghost use Rattle.std.specs.Prelude.{◌≡◌, true, ◌+◌, ◌≤◌, ◌<◌, length, get_or, Some};
 ghost use Rattle.token.specs.Meaning.{read_meaning, kinds_of};
 ghost use Rattle.token.specs.Ends.{end_of, string_end, scalar_end};
 ghost use Rattle.token.specs.Strings.{unescaped_meaning, bytes_answer, bytes_written};
@@ -10,29 +10,22 @@ ghost use Rattle.number.specs.Number.{number_at};
 ghost use Rattle.text.specs.Text.{starts_number, starts_plain, plain_at, started, started_at, text_from, text_at};
 ghost use Rattle.text.specs.Strings.{string_started_at, text_string_at};
 
-use token::{Read, Token, Unescaped};
+use refusal::Unread;
+use token::{NoBytes, Placed, Read, Token, Unescaped};
 
 // Whether a number starts with this byte.
+#[tactic(auto, unfolding(token::specs::Digits::is_digit, number::specs::Bytes::is_sign))]
 fn starts_number(b: u8) -> bool
     ensures { result ≡ starts_number b }
 {
-    if b'0' <= b {
-        return b <= b'9';
-    }
-    if b == b'+' {
-        return true;
-    }
-    b == b'-'
+    matches!(b, b'0'..=b'9' | b'+' | b'-')
 }
 
 // Whether an unquoted string starts with this byte.
 fn starts_plain(b: u8) -> bool
     ensures { result ≡ starts_plain b }
 {
-    if words::is_letter(b) {
-        return true;
-    }
-    b == b'_'
+    words::is_letter(b) || b == b'_'
 }
 
 // An unquoted string.
@@ -40,14 +33,14 @@ fn plain_token(input: &[u8], p: usize) -> Read
     ensures { read_meaning result ≡ plain_at input.now p }
 {
     let end = words::plain_end(input, p);
-    Read::Token {
+    Ok(Placed {
         token: Token::String {
             start: p,
             len: end - p,
         },
         first: p,
         next: end,
-    }
+    })
 }
 
 // The token whose first byte stands at `p`.
@@ -76,71 +69,65 @@ pub fn text_token(input: &[u8], at: usize) -> Read
     ensures { read_meaning result ≡ text_at input.now at }
 {
     if input.len() < at {
-        return Read::Beyond;
+        return Err(Unread::Beyond);
     }
     let p = blanks::skip_ignored(input, at);
     if input.len() <= p {
-        return Read::Incomplete;
+        return Err(Unread::Incomplete);
     }
     first_token(input, p)
 }
 
-// The place after the string whose first byte stands at `p`; 0 where no whole string does.
-fn first_string_end(input: &[u8], p: usize) -> usize
+// The place after the string whose first byte stands at `p`, where a whole one does.
+fn first_string_end(input: &[u8], p: usize) -> Option<usize>
     ensures { result ≡ string_end (kinds_of (started_at input.now p)) }
 {
     if input.len() <= p {
-        return 0;
+        return None;
     }
     let b = input[p];
     if b == b'"' {
         return quoted::quoted_end(input, p);
     }
     if starts_plain(b) {
-        return words::plain_end(input, p);
+        return Some(words::plain_end(input, p));
     }
-    0
+    None
 }
 
 // Whether one digit and then a `;` stand at `p`: a whole number, and the commonest of lists of flags and counts.
 fn one_digit(input: &[u8], p: usize) -> bool
-    ensures { result ≡ true → (p < length input.now) × (48 ≤ get_or input.now p 0) × (get_or input.now p 0 ≤ 57) × (p + 1 ≡ end_of (number_at input.now p)) }
+    ensures { result ≡ true → (p < length input.now) × (48 ≤ get_or input.now p 0) × (get_or input.now p 0 ≤ 57) × (Some (p + 1) ≡ end_of (number_at input.now p)) }
 {
-    if input.len() <= p {
-        return false;
-    }
-    if input.len() - p < 2 {
+    if input.len() <= p || input.len() - p < 2 {
         return false;
     }
     if input[p + 1] != b';' {
         return false;
     }
     let b = input[p];
-    if b < b'0' {
-        return false;
-    }
-    if b'9' < b {
+    if b < b'0' || b'9' < b {
         return false;
     }
     true
 }
 
-// The place after the number whose first byte stands at `p`; 0 where no whole one does.
-fn first_number_end(input: &[u8], p: usize) -> usize
+// The place after the number whose first byte stands at `p`, where a whole one does.
+fn first_number_end(input: &[u8], p: usize) -> Option<usize>
     ensures { result ≡ end_of (number_at input.now p) }
 {
     if one_digit(input, p) {
-        return p + 1;
+        return Some(p + 1);
     }
     number::number_end(input, p)
 }
 
 // The same of a string or another scalar, whose value is not asked for.
-fn first_scalar_end(input: &[u8], p: usize) -> usize
+fn first_scalar_end(input: &[u8], p: usize) -> Option<usize>
     ensures { result ≡ scalar_end (kinds_of (started_at input.now p)) }
 {
     if input.len() <= p {
-        return 0;
+        return None;
     }
     let b = input[p];
     if b == b'"' {
@@ -153,27 +140,27 @@ fn first_scalar_end(input: &[u8], p: usize) -> usize
         return first_number_end(input, p);
     }
     if starts_plain(b) {
-        return words::plain_end(input, p);
+        return Some(words::plain_end(input, p));
     }
     if b == b'#' {
-        return p + 1;
+        return Some(p + 1);
     }
-    0
+    None
 }
 
-// The place after the string token at a place; 0 where no whole string stands there.
-pub fn string_end(input: &[u8], at: usize) -> usize
+// The place after the string token at a place, where a whole one stands.
+pub fn string_end(input: &[u8], at: usize) -> Option<usize>
     ensures { result ≡ string_end (kinds_of (text_from input.now at)) }
 {
     first_string_end(input, blanks::first_place(input, at))
 }
 
-// The place after the string or other scalar at a place; 0 where no whole one stands there.
-pub fn scalar_end(input: &[u8], at: usize) -> usize
+// The place after the string or other scalar at a place, where a whole one stands.
+pub fn scalar_end(input: &[u8], at: usize) -> Option<usize>
     ensures { result ≡ scalar_end (kinds_of (text_from input.now at)) }
 {
     if one_digit(input, at) {
-        return at + 1;
+        return Some(at + 1);
     }
     first_scalar_end(input, blanks::first_place(input, at))
 }
@@ -184,7 +171,7 @@ fn first_bytes(input: &[u8], p: usize, out: &mut [u8]) -> Unescaped
     ensures written { out.new ≡ bytes_written (string_started_at input.now p) out.old }
 {
     if input.len() <= p {
-        return Unescaped::Incomplete;
+        return Err(NoBytes::Unread(Unread::Incomplete));
     }
     if input[p] == b'"' {
         return unescape::unescape(input, p, out);
@@ -199,7 +186,7 @@ pub fn text_string_bytes(input: &[u8], at: usize, out: &mut [u8]) -> Unescaped
     ensures written { out.new ≡ bytes_written (text_string_at input.now at) out.old }
 {
     if input.len() < at {
-        return Unescaped::Beyond;
+        return Err(NoBytes::Unread(Unread::Beyond));
     }
     first_bytes(input, blanks::skip_ignored(input, at), out)
 }

@@ -6,55 +6,48 @@ use lib.IntN.{ℤ}
 use Rattle.refusal.specs.Paper.{Paper, gives, more, refused, Got, got}
 use Rattle.refusal.specs.Meaning.{named_by}
 use Rattle.refusal.proofs.Laws.{named_by_its_number}
-use Rattle.varint.specs.Meaning.{uvarint_meaning, varint_meaning, written_meaning}
-use Rattle.varint.specs.declared.Uvarint.{Uvarint}
-use Rattle.varint.specs.declared.Uvarint.TheVariants as u
+use Rattle.varint.specs.Meaning.{number_meaning, uvarint_meaning, varint_meaning, written_meaning}
+use Rattle.std.specs.Prelude.{List, Result, Ok, Err}
+use Rattle.refusal.specs.declared.Unread.{Unread}
+use Rattle.refusal.specs.declared.Unread.TheVariants as u
 use Rattle.varint.specs.declared.Varint.{Varint}
-use Rattle.varint.specs.declared.Varint.TheVariants as v
-use Rattle.varint.specs.declared.Written.{Written}
-use Rattle.varint.specs.declared.Written.TheVariants as w
+use Rattle.varint.specs.declared.ShortOutput.{ShortOutput}
 
-uvarint_of : Paper (Got ℕ) → Uvarint
-uvarint_of (gives (got value next)) = u.Value value next
-uvarint_of more = u.More
-uvarint_of (refused n []) = u.Beyond
-uvarint_of (refused n (p ∷ ps)) = u.Refused (named_by n p)
+unread_of : ℕ → List ℕ → Unread
+unread_of n [] = u.Beyond
+unread_of n (p ∷ ps) = u.Refused (named_by n p)
 
-uvarint_again : (a : Uvarint) → uvarint_of (uvarint_meaning a) ≡ a
-unfolding uvarint_of
-uvarint_again (u.Value value next) = refl
-uvarint_again u.More = refl
-uvarint_again (u.Refused r) = ap u.Refused (named_by_its_number r)
-uvarint_again u.Beyond = refl
+module _ {A : Type 0} where
+  number_of : Paper (Got A) → Result (Varint A) Unread
+  number_of (gives (got value next)) = Ok (record { value = value; next = next })
+  number_of more = Err u.Incomplete
+  number_of (refused n vs) = Err (unread_of n vs)
 
-pub uvarint_injective : (a b : Uvarint) → uvarint_meaning a ≡ uvarint_meaning b → a ≡ b
-uvarint_injective a b e = sym (uvarint_again a) ∙ ap uvarint_of e ∙ uvarint_again b
+  number_again : (a : Result (Varint A) Unread) → number_of (number_meaning a) ≡ a
+  unfolding number_of unread_of
+  number_again (Ok v) = refl
+  number_again (Err u.Incomplete) = refl
+  number_again (Err (u.Refused r)) = ap (λ y. Err (u.Refused y)) (named_by_its_number r)
+  number_again (Err u.Beyond) = refl
 
-varint_of : Paper (Got ℤ) → Varint
-varint_of (gives (got value next)) = v.Value value next
-varint_of more = v.More
-varint_of (refused n []) = v.Beyond
-varint_of (refused n (p ∷ ps)) = v.Refused (named_by n p)
+  number_injective : (a b : Result (Varint A) Unread) → number_meaning a ≡ number_meaning b → a ≡ b
+  number_injective a b e = sym (number_again a) ∙ ap number_of e ∙ number_again b
 
-varint_again : (a : Varint) → varint_of (varint_meaning a) ≡ a
-unfolding varint_of
-varint_again (v.Value value next) = refl
-varint_again v.More = refl
-varint_again (v.Refused r) = ap v.Refused (named_by_its_number r)
-varint_again v.Beyond = refl
+pub uvarint_injective : (a b : Result (Varint ℕ) Unread) → uvarint_meaning a ≡ uvarint_meaning b → a ≡ b
+uvarint_injective a b e = number_injective a b e
 
-pub varint_injective : (a b : Varint) → varint_meaning a ≡ varint_meaning b → a ≡ b
-varint_injective a b e = sym (varint_again a) ∙ ap varint_of e ∙ varint_again b
+pub varint_injective : (a b : Result (Varint ℤ) Unread) → varint_meaning a ≡ varint_meaning b → a ≡ b
+varint_injective a b e = number_injective a b e
 
-written_of : Paper ℕ → Written
-written_of (gives count) = w.Bytes count
-written_of more = w.Short
-written_of (refused n vs) = w.Short
+written_of : Paper ℕ → Result ℕ ShortOutput
+written_of (gives count) = Ok count
+written_of more = Err (record {})
+written_of (refused n vs) = Err (record {})
 
-written_again : (a : Written) → written_of (written_meaning a) ≡ a
+written_again : (a : Result ℕ ShortOutput) → written_of (written_meaning a) ≡ a
 unfolding written_of
-written_again (w.Bytes count) = refl
-written_again w.Short = refl
+written_again (Ok count) = refl
+written_again (Err e) = refl
 
-pub written_injective : (a b : Written) → written_meaning a ≡ written_meaning b → a ≡ b
+pub written_injective : (a b : Result ℕ ShortOutput) → written_meaning a ≡ written_meaning b → a ≡ b
 written_injective a b e = sym (written_again a) ∙ ap written_of e ∙ written_again b

@@ -8,6 +8,7 @@ use Prim.Native.Nat.{ℕ, zero, suc, ◌+◌, ◌*◌, ◌%◌, ◌^◌, ◌-◌
 use native.Mathlib.Nat.{pow-suc, mul_assoc, pow-le-pow_right}
 use native.Mathlib.Numerals.{add-one}
 use native.Mathlib.Omega.{arith}
+use Rattle.std.specs.Prelude.{Some, None}
 use lib.ListN.{length, take, drop, get_or, length-drop}
 use lib.Seq.{length-take-le, get_or-drop}
 use lib.Dec.{leb, ltb, lit<}
@@ -262,11 +263,11 @@ module _ (s : List ℕ) (at : ℕ) (p : 9 ≤ run (drop at s)) where
           at_is s at (omega arith) ∙ is_long at (drop at s) r (omega arith) (rw tenth_is h)
 
 -- the end that it tells: a tenth byte of 2 or more ends no number
-pub ten_end : (s : List ℕ) (at : ℕ) → 9 ≤ run (drop at s) → 9 < length s - at → get_or s (at + 9) 0 < 2 → uvarint_end (uvarint_at s at) ≡ at + 10
+pub ten_end : (s : List ℕ) (at : ℕ) → 9 ≤ run (drop at s) → 9 < length s - at → get_or s (at + 9) 0 < 2 → uvarint_end (uvarint_at s at) ≡ Some (at + 10)
 ten_end s at p k h = ap uvarint_end (ten_value s at p k (get_or s (at + 9) 0) refl (omega arith) _ refl (omega arith))
 
 pub ten_no_end : (s : List ℕ) (at : ℕ) → 9 ≤ run (drop at s) → 9 < length s - at → 2 ≤ get_or s (at + 9) 0 → get_or s (at + 9) 0 < 256
-    → uvarint_end (uvarint_at s at) ≡ 0
+    → uvarint_end (uvarint_at s at) ≡ None
 ten_no_end s at p k h q =
     let b = get_or s (at + 9) 0 in
     ⊎_elim (λ w. ap uvarint_end (ten_wide s at p k b refl w))

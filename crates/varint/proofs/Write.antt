@@ -52,3 +52,14 @@ module _ (out : List ℕ) (v : ℕ) where
       → (write_answer (length out) v ≡ gives (length (encode v))) × (write_bytes out v ≡ sets out 0 (encode v))
   unfolding write_answer write_bytes
   fits k = (rw (le-ltb _ _ k), rw (le-ltb _ _ k, ← zero-add (length (encode v))) (sym (sets-eq (encode v) out 0 (omega arith))))
+
+-- ---- how long it is
+
+pub some : (n : ℕ) → 1 ≤ length (encode n)
+some n = ⊎_elim (λ h. omega (arith, ap length (step n h))) (λ h. omega (arith, ap length (last n h))) (either 128 n)
+
+pub long : (n : ℕ) → 2 ≤ length (encode n) → 128 ≤ n
+long n k = ⊎_elim (λ h. h) (λ h. absurd (omega (arith, ap length (last n h)))) (either 128 n)
+
+pub short_one : (n : ℕ) → length (encode n) ≡ 1 → n < 128
+short_one n k = ⊎_elim (λ h. absurd (omega (arith, ap length (step n h), some (n / 128)))) (λ h. h) (either 128 n)

@@ -1,27 +1,24 @@
 -- What each answer of this crate means: the paper's number and values.
-use Rattle.std.specs.Prelude.{ℕ, [], ℤ}
-use Rattle.refusal.specs.Numbers.{beyond_slice, short_output}
-use Rattle.refusal.specs.Paper.{Paper, gives, more, refused, Got, got}
-use Rattle.refusal.specs.Meaning.{refusal_meaning}
-use Rattle.varint.specs.declared.Uvarint.{Uvarint}
-use Rattle.varint.specs.declared.Uvarint.TheVariants as u
+use Rattle.std.specs.Prelude.{ℕ, [], ℤ, Result, Ok, Err}
+use Rattle.refusal.specs.Numbers.{short_output}
+use Rattle.refusal.specs.Paper.{Paper, gives, refused, Got, got}
+use Rattle.refusal.specs.Meaning.{unread_meaning}
+use Rattle.refusal.specs.declared.Unread.{Unread}
 use Rattle.varint.specs.declared.Varint.{Varint}
-use Rattle.varint.specs.declared.Varint.TheVariants as v
-use Rattle.varint.specs.declared.Written.{Written}
-use Rattle.varint.specs.declared.Written.TheVariants as w
+use Rattle.varint.specs.declared.ShortOutput.{ShortOutput}
 
-abbrev pub uvarint_meaning : Uvarint → Paper (Got ℕ)
-uvarint_meaning (u.Value value next) = gives (got value next)
-uvarint_meaning u.More = more
-uvarint_meaning (u.Refused r) = refusal_meaning r
-uvarint_meaning u.Beyond = refused beyond_slice []
+-- a number and the place after it, more bytes are needed, or a refusal
+abbrev pub number_meaning : {A : Type 0} → Result (Varint A) Unread → Paper (Got A)
+number_meaning (Ok v) = gives (got v.value v.next)
+number_meaning (Err e) = unread_meaning e
 
-abbrev pub varint_meaning : Varint → Paper (Got ℤ)
-varint_meaning (v.Value value next) = gives (got value next)
-varint_meaning v.More = more
-varint_meaning (v.Refused r) = refusal_meaning r
-varint_meaning v.Beyond = refused beyond_slice []
+abbrev pub uvarint_meaning : Result (Varint ℕ) Unread → Paper (Got ℕ)
+uvarint_meaning r = number_meaning r
 
-abbrev pub written_meaning : Written → Paper ℕ
-written_meaning (w.Bytes count) = gives count
-written_meaning w.Short = refused short_output []
+abbrev pub varint_meaning : Result (Varint ℤ) Unread → Paper (Got ℤ)
+varint_meaning r = number_meaning r
+
+-- how many bytes were written, or 27
+abbrev pub written_meaning : Result ℕ ShortOutput → Paper ℕ
+written_meaning (Ok count) = gives count
+written_meaning (Err e) = refused short_output []

@@ -1,6 +1,6 @@
 -- Varints, from the Protocol Buffers encoding document: each byte but the last has its top bit set, and the low seven bits of the
 -- bytes, lowest first, are the number. A number has 64 bits, so ten bytes hold it.
-use Rattle.std.specs.Prelude.{ℕ, suc, ◌+◌, ◌*◌, ◌%◌, Bool, ◌&&◌, List, [], ◌∷◌, length, take, drop, get_or, leb, ltb}
+use Rattle.std.specs.Prelude.{ℕ, suc, ◌+◌, ◌*◌, ◌%◌, Bool, ◌&&◌, List, [], ◌∷◌, length, take, drop, get_or, leb, ltb, Option, Some, None}
 use Rattle.refusal.specs.Numbers.{long_varint, wide_varint, beyond_slice}
 use Rattle.refusal.specs.Paper.{Paper, gives, more, refused, Got, got, pick}
 
@@ -39,8 +39,8 @@ uvarint at t =
 unfoldable pub uvarint_at : List ℕ → ℕ → Paper (Got ℕ)
 uvarint_at s at = pick (ltb (length s) at) (refused beyond_slice []) (uvarint at (drop at s))
 
--- the place after the number; 0 where no whole one stands there
-abbrev pub uvarint_end : Paper (Got ℕ) → ℕ
-uvarint_end (gives (got v next)) = next
-uvarint_end more = 0
-uvarint_end (refused n vs) = 0
+-- the place after the number, where a whole one stands
+abbrev pub uvarint_end : Paper (Got ℕ) → Option ℕ
+uvarint_end (gives (got v next)) = Some next
+uvarint_end more = None
+uvarint_end (refused n vs) = None

@@ -10,153 +10,114 @@ ghost use Rattle.varint.specs.Signed.{varint_at};
 ghost use Rattle.varint.specs.Write.{encode, write_answer, write_bytes};
 ghost use Rattle.varint.specs.Meaning.{uvarint_meaning, varint_meaning, written_meaning};
 
-use refusal::Refusal;
+use refusal::{Unread, Why};
 
-// What reading an unsigned varint at a place answers.
-#[derive(Clone, Copy)]
-pub enum Uvarint {
-    // The number, and the place after its last byte.
-    Value { value: u64, next: usize },
-    // The bytes ended inside it.
-    More,
-    // It is longer or wider than 64 bits allow.
-    Refused { refusal: Refusal },
-    // 26: the place lies beyond the slice.
-    Beyond,
+// A number that was read, and the place after its last byte.
+#[derive(Clone, Copy, Debug, PartialEq, Eq)]
+pub struct Varint<T> {
+    pub value: T,
+    pub next: usize,
 }
 
-// What reading a signed varint at a place answers: the same cases.
-#[derive(Clone, Copy)]
-pub enum Varint {
-    Value { value: i64, next: usize },
-    More,
-    Refused { refusal: Refusal },
-    Beyond,
-}
-
-// What writing a varint answers.
-#[derive(Clone, Copy)]
-pub enum Written {
-    // So many bytes were written at the front of the output.
-    Bytes { count: usize },
-    // 27: the output is too short, and keeps its bytes.
-    Short,
-}
-
-// A byte as a wide number.
-fn wide(x: u8) -> u64
-    ensures { result ≡ x }
-{
-    x as u64
-}
+// 27: the output is too short, and keeps its bytes.
+#[derive(Clone, Copy, Debug, PartialEq, Eq)]
+pub struct ShortOutput;
 
 // The unsigned varint that starts at `at` with nine bytes that have the top bit set, whose number is `value`.
-fn tenth(input: &[u8], at: usize, value: u64) -> Uvarint
+fn tenth(input: &[u8], at: usize, value: u64) -> Result<Varint<u64>, Unread>
     requires { (9 ≤ run (drop at input.now)) × (value ≡ number (take 9 (drop at input.now))) }
     ensures { uvarint_meaning result ≡ uvarint_at input.now at }
 {
     let left = input.len() - at;
     if left <= 9 {
-        return Uvarint::More;
+        return Err(Unread::Incomplete);
     }
-    let last = wide(input[at + 9]);
+    let last = u64::from(input[at + 9]);
     if 1 < last % 128 {
-        return Uvarint::Refused {
-            refusal: Refusal::WideVarint { place: at },
-        };
+        return Err(Unread::Refused(Why::WideVarint.at(at)));
     }
     if last < 128 {
-        return Uvarint::Value {
+        return Ok(Varint {
             value: value + last * 0x8000_0000_0000_0000,
             next: at + 10,
-        };
+        });
     }
     if left <= 10 {
-        return Uvarint::More;
+        return Err(Unread::Incomplete);
     }
-    Uvarint::Refused {
-        refusal: Refusal::LongVarint { place: at },
-    }
+    Err(Unread::Refused(Why::LongVarint.at(at)))
 }
 
 // The unsigned varint that starts at `at`. A refusal carries `at`.
-pub fn read_uvarint(input: &[u8], at: usize) -> Uvarint
+pub fn read_uvarint(input: &[u8], at: usize) -> Result<Varint<u64>, Unread>
     ensures { uvarint_meaning result ≡ uvarint_at input.now at }
 {
     if input.len() < at {
-        return Uvarint::Beyond;
+        return Err(Unread::Beyond);
     }
     let left = input.len() - at;
     let mut value: u64 = 0;
     let mut weight: u64 = 1;
-    let mut i: usize = 0;
-    while i < 9 {
+    for i in 0..9 {
         if left <= i {
-            return Uvarint::More;
+            return Err(Unread::Incomplete);
         }
-        let b = wide(input[at + i]);
+        let b = u64::from(input[at + i]);
         value += b % 128 * weight;
         if b < 128 {
-            return Uvarint::Value {
+            return Ok(Varint {
                 value,
                 next: at + i + 1,
-            };
+            });
         }
         weight *= 128;
-        i += 1;
     }
     tenth(input, at, value)
 }
 
-// The place after the varint that starts at `at` with nine bytes that have the top bit set; 0 where no whole one stands there.
-fn tenth_end(input: &[u8], at: usize) -> usize
+// The place after the varint that starts at `at` with nine bytes that have the top bit set, where a whole one stands.
+fn tenth_end(input: &[u8], at: usize) -> Option<usize>
     requires { 9 ≤ run (drop at input.now) }
     ensures { result ≡ uvarint_end (uvarint_at input.now at) }
 {
     let left = input.len() - at;
     if left <= 9 {
-        return 0;
+        return None;
     }
     if input[at + 9] < 2 {
-        return at + 10;
+        return Some(at + 10);
     }
-    0
+    None
 }
 
-// The place after the varint that starts at `at`, whose number is not asked for; 0 where no whole one stands there.
-pub fn uvarint_end(input: &[u8], at: usize) -> usize
+// The place after the varint that starts at `at`, whose number is not asked for, where a whole one stands.
+pub fn uvarint_end(input: &[u8], at: usize) -> Option<usize>
     ensures { result ≡ uvarint_end (uvarint_at input.now at) }
 {
     if input.len() < at {
-        return 0;
+        return None;
     }
     let left = input.len() - at;
-    let mut i: usize = 0;
-    while i < 9 {
+    for i in 0..9 {
         if left <= i {
-            return 0;
+            return None;
         }
         if input[at + i] < 128 {
-            return at + i + 1;
+            return Some(at + i + 1);
         }
-        i += 1;
     }
     tenth_end(input, at)
 }
 
 // The signed varint that starts at `at`. A refusal carries `at`.
-pub fn read_varint(input: &[u8], at: usize) -> Varint
+pub fn read_varint(input: &[u8], at: usize) -> Result<Varint<i64>, Unread>
     ensures { varint_meaning result ≡ varint_at input.now at }
 {
-    match read_uvarint(input, at) {
-        Uvarint::Value { value, next } => Varint::Value {
-            value: zigzag::unzigzag(value),
-            next,
-        },
-        Uvarint::More => Varint::More,
-        Uvarint::Refused { refusal } => Varint::Refused { refusal },
-        Uvarint::Beyond => Varint::Beyond,
-    }
+    let Varint { value, next } = read_uvarint(input, at)?;
+    Ok(Varint {
+        value: zigzag::unzigzag(value),
+        next,
+    })
 }
 
 // How many bytes the shortest form of a number has.
@@ -173,27 +134,25 @@ fn uvarint_len(value: u64) -> usize
 }
 
 // The shortest form of a number, at the front of the output. A refusal writes nothing.
-pub fn write_uvarint(value: u64, out: &mut [u8]) -> Written
+pub fn write_uvarint(value: u64, out: &mut [u8]) -> Result<usize, ShortOutput>
     ensures answer { written_meaning result ≡ write_answer (length out.old) value }
     ensures bytes { out.new ≡ write_bytes out.old value }
 {
     let n = uvarint_len(value);
     if out.len() < n {
-        return Written::Short;
+        return Err(ShortOutput);
     }
     let mut rest = value;
-    let mut p: usize = 0;
-    while 128 <= rest {
+    for p in 0..n - 1 {
         out[p] = (rest % 128 + 128) as u8;
         rest /= 128;
-        p += 1;
     }
-    out[p] = rest as u8;
-    Written::Bytes { count: p + 1 }
+    out[n - 1] = rest as u8;
+    Ok(n)
 }
 
 // The shortest form of a signed number, at the front of the output. A refusal writes nothing.
-pub fn write_varint(value: i64, out: &mut [u8]) -> Written
+pub fn write_varint(value: i64, out: &mut [u8]) -> Result<usize, ShortOutput>
     ensures answer { written_meaning result ≡ write_answer (length out.old) (zigzag value) }
     ensures bytes { out.new ≡ write_bytes out.old (zigzag value) }
 {

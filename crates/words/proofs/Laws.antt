@@ -16,6 +16,7 @@ use Rattle.token.specs.Meaning.{kind_of}
 use Rattle.token.specs.declared.Token.{Token}
 use Rattle.token.specs.declared.Token.TheVariants.{Boolean, Double}
 use Rattle.token.specs.declared.Kind.TheVariants.{Scalar}
+use Rattle.std.specs.Prelude.{Some, None}
 use Rattle.token.specs.Ends.{end_of}
 use Rattle.words.specs.Word.{Word, words, stands, word_of, word_at}
 use Rattle.words.specs.Plain.{is_plain, plain_run, plain_end}
@@ -118,18 +119,18 @@ module _ (s : List ℕ) (at : ℕ) where
   pub word_settled : at < length s → word_at s at ≡ more → ⊥
   word_settled h e = settled_in s at h words (inside s at h ∙ e)
 
-  -- an end that is not 0 is that of a word's token
-  pub end_gives : (n : ℕ) → end_of (word_at s at) ≡ n → (n ≡ 0 → ⊥) → (t : Token) × (word_at s at ≡ gives (spot t at n))
-  end_gives n e k = go (word_at s at) refl e
+  -- an end is that of a word's token
+  pub end_gives : (n : ℕ) → end_of (word_at s at) ≡ Some n → (t : Token) × (word_at s at ≡ gives (spot t at n))
+  end_gives n e = go (word_at s at) refl e
     where
-      go : (r : Paper (Spot Token)) → word_at s at ≡ r → end_of r ≡ n → (t : Token) × (word_at s at ≡ gives (spot t at n))
-      go (gives (spot t a m)) f g = (t, f ∙ rw ((word_lies t a m f).here, g))
-      go more f g = absurd (k (sym g))
-      go (refused q vs) f g = absurd (k (sym g))
+      go : (r : Paper (Spot Token)) → word_at s at ≡ r → end_of r ≡ Some n → (t : Token) × (word_at s at ≡ gives (spot t at n))
+      go (gives (spot t a m)) f g = let i : m ≡ n = cc in (t, f ∙ rw ((word_lies t a m f).here, i))
+      go more f g = absurd cc
+      go (refused q vs) f g = absurd cc
 
-  -- where the end is 0 there is no token
-  pub end_none : end_of (word_at s at) ≡ 0 → (t : Token) (a n : ℕ) → word_at s at ≡ gives (spot t a n) → ⊥
-  end_none e t a n f = omega (arith, (word_lies t a n f).grows, sym (ap end_of f) ∙ e)
+  -- where there is none there is no token
+  pub end_none : end_of (word_at s at) ≡ None → (t : Token) (a n : ℕ) → word_at s at ≡ gives (spot t a n) → ⊥
+  end_none e t a n f = let z : Some n ≡ None = sym (ap end_of f) ∙ e in cc
 
 -- ---- unquoted strings
 

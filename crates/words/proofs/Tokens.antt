@@ -12,6 +12,7 @@ use Rattle.std.specs.Prelude.{Option, Some, None}
 use Rattle.refusal.specs.Numbers.{unknown_word, beyond_slice}
 use Rattle.refusal.specs.Paper.{Paper, gives, more, refused, Spot, spot, pick}
 use Rattle.token.specs.declared.Token.{Token}
+use Rattle.std.specs.Prelude.{None}
 use Rattle.token.specs.Ends.{end_of}
 use Rattle.words.specs.Word.{words, stands, word_of, word_at}
 use Rattle.words.specs.Cases.{word_in, width, token_of}
@@ -53,5 +54,5 @@ module _ (s : List ℕ) (at : ℕ) where
   by_case h r e = ap (answer_by at) e ∙ agrees at (drop (at + 1) s) ∙ inside h
 
   -- at the end of the slice or beyond it there is no word
-  pub end_out : length s ≤ at → 0 ≡ end_of (word_at s at)
+  pub end_out : length s ≤ at → None ≡ end_of (word_at s at)
   end_out h = ⊎_elim (λ e. ap end_of (ended e)) (λ k. ap end_of (beyond k)) (eq-or-lt_of_le h)

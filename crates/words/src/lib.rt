@@ -99,16 +99,16 @@ pub fn word_token(input: &[u8], at: usize) -> Read
     }
 }
 
-// The place after the word whose `%` is the byte at a place; 0 where `word_token` gives none.
-pub fn word_end(input: &[u8], at: usize) -> usize
+// The place after the word whose `%` is the byte at a place, where `word_token` gives a token.
+pub fn word_end(input: &[u8], at: usize) -> Option<usize>
     ensures { result ≡ end_of (word_at input.now at) }
 {
     if input.len() <= at {
-        return 0;
+        return None;
     }
     match word_at(input, at + 1) {
-        Some(word) => at + 1 + word.width(),
-        None => 0,
+        Some(word) => Some(at + 1 + word.width()),
+        None => None,
     }
 }
 

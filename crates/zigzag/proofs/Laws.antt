@@ -1,8 +1,7 @@
 -- Half a number, exclusive or with nought less its low bit, read in two's complement, is what zigzag says.
 -- Assumes nothing.
-use Rattle.std.proofs.Common.{◌≡◌, ℕ, suc, ◌+◌, ◌-◌, ◌*◌, ◌/◌, ◌%◌, ◌^◌, ◌<◌, ◌≤◌, Bool, true, false, T, ℤ, pos, negsuc, ◌+ℤ◌, ◌-ℤ◌, nat_abs, sym, refl, ap, ◌∙◌, ⊎_elim, mod-eq_of_lt, eq-zero-or-pos, arith, w64, to_z, le-ltb, lt-ltb, eq-eqb, ne_eqb, leb-false}
+use Rattle.std.proofs.Common.{◌≡◌, ℕ, suc, ◌+◌, ◌-◌, ◌*◌, ◌/◌, ◌%◌, ◌^◌, ◌<◌, ◌≤◌, ℤ, pos, negsuc, sym, ap, ◌∙◌, ⊎_elim, mod-eq_of_lt, eq-zero-or-pos, arith, le-ltb, lt-ltb, eq-eqb, ne_eqb}
 use lib.Bits.{bit_xor, xor_zero_r, xor_add_and, and_mask}
-use lib.Signed.{mag, non_neg, le_z}
 use Rattle.zigzag.specs.Zigzag.{twos, signed, zigzag}
 
 -- exclusive or with all ones is the complement
@@ -41,26 +40,6 @@ unzigzag_is n r hn hr e =
     let y : 2 ^ 64 - suc (bit_xor (n / 2) r) ≡ n / 2 = omega arith in
     twos_high _ (omega arith) ∙ ap negsuc y ∙ sym (odd n (omega arith)))
     (eq-zero-or-pos (n % 2))
-
--- a pattern from 2 ^ 63 on, less 2 ^ 64, as the machine adds it up
-pub high_sum : (p : ℕ) → 2 ^ 63 ≤ p → p < 2 ^ 64 → to_z w64 (2 ^ 63) +ℤ to_z w64 (p - 2 ^ 63) ≡ negsuc (2 ^ 64 - suc p)
-high_sum p h k =
-    let m : p - 2 ^ 63 < 2 ^ 63 = omega arith in
-    let e : 2 ^ 63 - suc (p - 2 ^ 63) ≡ 2 ^ 64 - suc p = omega arith in
-    simp (lt-ltb _ _ m) (ap negsuc e)
-
--- ---- from a signed number, by the test `v >= 0` as a branch has it
-
-untrue : ◌≡◌ {A = Bool} false true → ⊥
-untrue e = let z : ◌≡◌ {A = ℕ} 0 1 = cc in omega arith
-
-pub positive : (z : ℤ) → le_z (pos 0) z ≡ true → T (non_neg z) × (nat_abs z ≡ mag z) × (zigzag z ≡ mag z * 2)
-positive (pos n) h = (tt, refl, refl)
-positive (negsuc k) h = absurd (untrue h)
-
-pub negative : (z : ℤ) → le_z (pos 0) z ≡ false → (negsuc 0 -ℤ z ≡ pos (mag z)) × (zigzag z ≡ mag z * 2 + 1)
-negative (pos n) h = absurd (omega (arith, leb-false 0 n h))
-negative (negsuc k) h = (rw (le-ltb (suc k) 1 (omega arith)) (ap pos (omega arith)), refl)
 
 -- zigzag and back
 pub signed_zigzag : (z : ℤ) → signed (zigzag z) ≡ z

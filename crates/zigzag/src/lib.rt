@@ -10,27 +10,21 @@ ghost use Rattle.zigzag.specs.Zigzag.{signed, twos, zigzag};
 pub fn to_i64(pattern: u64) -> i64
     ensures { result ≡ twos pattern }
 {
-    if pattern < 0x8000_0000_0000_0000 {
-        return pattern as i64;
-    }
-    -9223372036854775808 + (pattern - 0x8000_0000_0000_0000) as i64
+    pattern.cast_signed()
 }
 
 // The signed number of a zigzag number: half of it, exclusive or with nought less its low bit, wrapping at 64 bits.
 pub fn unzigzag(n: u64) -> i64
     ensures { result ≡ signed n }
 {
-    to_i64((n / 2) ^ std::num::wrapping_sub_u64(0, n % 2))
+    to_i64((n / 2) ^ 0u64.wrapping_sub(n % 2))
 }
 
 // The number itself, or -1 less it where it is below nought.
 pub fn magnitude(v: i64) -> u64
     ensures { result ≡ mag v }
 {
-    if v >= 0 {
-        return v as u64;
-    }
-    (-1 - v) as u64
+    if v >= 0 { v as u64 } else { (-1 - v) as u64 }
 }
 
 // The zigzag number of a signed one.
@@ -38,8 +32,5 @@ pub fn to_zigzag(v: i64) -> u64
     ensures { result ≡ zigzag v }
 {
     let m = magnitude(v);
-    if v >= 0 {
-        return m * 2;
-    }
-    m * 2 + 1
+    if v >= 0 { m * 2 } else { m * 2 + 1 }
 }

@@ -12,7 +12,7 @@ returns-then-input-at c = sym (beyond c.args.input.now c.args.at c.if-input-at.t
 pub returns-then-input-at-2 : goal.returns-then-input-at-2
 returns-then-input-at-2 c =
     let x = c.args in
-    sym (from_is x.input.now x.at c.if-input-at.false ∙ ended x.input.now x.at c.if-input-at-2.true)
+    sym (from_is x.input.now x.at c.if-input-at.false ∙ ended x.input.now x.at (omega arith))
 
 pub returns-in-1 : goal.returns-in-1
 unfolding marked

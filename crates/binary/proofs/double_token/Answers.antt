@@ -19,5 +19,5 @@ unfolding double_at
 returns c =
     let x = c.args in
     let b = c.word_at-bits.ensures in
-    ap₂ (λ (v : Float) (n : ℕ). gives (spot (Double v n) x.at (x.at + 9))) (c.float_of-value.ensures ∙ ap (of_bits binary64) b) b
+    ap₂ (λ (v : Float) (n : ℕ). gives (spot (Double v n) x.at (x.at + 9))) (c.float_of.ensures ∙ ap (of_bits binary64) b) b
     ∙ sym (rw (le-ltb (length x.input.now - x.at) 9 (omega arith)))

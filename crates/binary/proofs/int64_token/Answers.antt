@@ -1,22 +1,11 @@
--- `int64_token` meets its contract: the varint's answer, at the token's first byte.
-use mathlib.Core.Path.{◌∙◌, sym, ap}
-use Prim.Native.Nat.{◌+◌}
-use Rattle.refusal.specs.Meaning.{refusal_meaning}
-use Rattle.refusal.proofs.Laws.{moved_meaning}
-use Rattle.varint.specs.Meaning.{varint_meaning}
-use Rattle.token.specs.declared.Token.TheVariants.{Int64}
-use Rattle.binary.specs.Binary.{of_varint}
-use Rattle.binary.proofs.Laws.{no_beyond}
-use borrow.Author.Rules.{rules}
+use Rattle.std.proofs.Common.{rules}
+use Rattle.varint.specs.Signed.{varint_at}
 use Rattle.binary.proofs.int64_token.Goals as goal
 
-pub returns-in-Refused : goal.returns-in-Refused
-returns-in-Refused c =
-    let x = c.args in
-    ap refusal_meaning c.moved.ensures ∙ moved_meaning x.at c.in-Refused.refusal
-    ∙ ap (of_varint x.at Int64) (ap varint_meaning (sym c.in-Refused.is) ∙ c.read_varint.ensures)
+pub returns-in_err-value : goal.returns-in_err-value
+unfolding varint_at
+returns-in_err-value c = search rules
 
-pub returns-in-Beyond : goal.returns-in-Beyond
-returns-in-Beyond c =
-    let x = c.args in
-    absurd (no_beyond x.input.now (x.at + 1) _ (search rules) (sym c.read_varint.ensures ∙ ap varint_meaning c.in-Beyond.is))
+pub returns : goal.returns
+unfolding varint_at
+returns c = search rules

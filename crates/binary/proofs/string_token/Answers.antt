@@ -1,37 +1,38 @@
--- `string_token` meets its contract: the varint's answer, and then the string of that length.
+-- `string_token` meets its contract: the varint's answer, and then the length by its parity and the bytes left.
 use mathlib.Core.Path.{◌∙◌, sym, ap}
-use Prim.Native.Nat.{◌+◌}
+use Rattle.std.proofs.Common.{rules, arith, ◌+◌}
 use Rattle.refusal.specs.Meaning.{refusal_meaning}
-use Rattle.refusal.proofs.Laws.{moved_meaning}
-use Rattle.varint.specs.Meaning.{uvarint_meaning}
-use Rattle.varint.proofs.Round.{within, never_beyond}
-use Rattle.binary.proofs.Laws.{string_sized, string_more, string_refused}
-use borrow.Author.Rules.{rules}
+use Rattle.varint.specs.Signed.{varint_at}
+use Rattle.varint.proofs.Round.{within}
+use Rattle.binary.proofs.Laws.{behind_gives, string_sized, size_odd, size_short, size_whole}
 use Rattle.binary.proofs.string_token.Goals as goal
 
-pub sized_token-requires : goal.sized_token-requires
-sized_token-requires c =
-    let x = c.args in
-    (within x.input.now (x.at + 1) _ _ (sym c.read_uvarint.ensures ∙ ap uvarint_meaning c.in-Value.is)).1
+pub returns-in_err-value : goal.returns-in_err-value
+unfolding varint_at
+returns-in_err-value c = search rules
 
-pub returns-in-Value : goal.returns-in-Value
-returns-in-Value c =
+pub returns-then-value-eq1 : goal.returns-then-value-eq1
+returns-then-value-eq1 c =
     let x = c.args in
-    let e = sym c.read_uvarint.ensures ∙ ap uvarint_meaning c.in-Value.is in
-    c.sized_token.ensures ∙ sym (string_sized x.input.now x.at _ _ e)
+    let v = c.in_ok-value.field-0 in
+    let e = behind_gives x.at _ _ c.in_ok-value.ensures in
+    ap refusal_meaning c.at.ensures ∙ sym (string_sized x.input.now x.at v.value v.next e ∙ size_odd x.input.now x.at v.value v.next (omega arith))
 
-pub returns-in-More : goal.returns-in-More
-returns-in-More c =
+pub overflow_sub-input : goal.overflow_sub-input
+overflow_sub-input c =
     let x = c.args in
-    sym (string_more x.input.now x.at (sym c.read_uvarint.ensures ∙ ap uvarint_meaning c.in-More.is))
+    (within x.input.now (x.at + 1) _ _ (behind_gives x.at _ _ c.in_ok-value.ensures)).1
 
-pub returns-in-Refused : goal.returns-in-Refused
-returns-in-Refused c =
+pub returns-then-input-next : goal.returns-then-input-next
+returns-then-input-next c =
     let x = c.args in
-    let e = sym c.read_uvarint.ensures ∙ ap uvarint_meaning c.in-Refused.is in
-    ap refusal_meaning c.moved.ensures ∙ moved_meaning x.at c.in-Refused.refusal ∙ sym (string_refused x.input.now x.at _ _ e)
+    let v = c.in_ok-value.field-0 in
+    let e = behind_gives x.at _ _ c.in_ok-value.ensures in
+    sym (string_sized x.input.now x.at v.value v.next e ∙ size_short x.input.now x.at v.value v.next (omega arith) (omega arith))
 
-pub returns-in-Beyond : goal.returns-in-Beyond
-returns-in-Beyond c =
+pub returns : goal.returns
+returns c =
     let x = c.args in
-    absurd (never_beyond x.input.now (x.at + 1) _ (search rules) (sym c.read_uvarint.ensures ∙ ap uvarint_meaning c.in-Beyond.is))
+    let v = c.in_ok-value.field-0 in
+    let e = behind_gives x.at _ _ c.in_ok-value.ensures in
+    sym (string_sized x.input.now x.at v.value v.next e ∙ size_whole x.input.now x.at v.value v.next (omega arith) (omega arith))

@@ -1,15 +1,15 @@
--- `leading_separators` meets its contract. The loop's invariant: the separators from here end where those from the start end.
-use mathlib.Core.Path.{sym, ◌∙◌}
-use native.Mathlib.Omega.{arith}
-use native.Mathlib.Nat.{le_antisymm}
-use Rattle.buffer.proofs.Buffer.{seps_more, seps_stop, seps_end}
+-- `leading_separators` meets its contract: what the chain takes are the separators at the front.
+use Rattle.std.proofs.Common.{sym, ◌∙◌, rules, tests}
+use Rattle.std.proofs.lemmas.Iterator.{YieldsList-from_slice}
+use Rattle.std.proofs.lemmas.Iterator.Consumers.{count_from_yields_List}
+use Rattle.std.proofs.lemmas.Iterator.Search.{YieldsList-from_take_while}
+use Rattle.std.proofs.lemmas.List.Folds.{length-prefix_len}
+use Rattle.buffer.specs.Buffer.{is_separator}
+use Rattle.buffer.proofs.Buffer.{separators_are}
 use Rattle.buffer.proofs.leading_separators.Goals as goal
 
-pub returns-then-not-is_separator : goal.returns-then-not-is_separator
-returns-then-not-is_separator c = sym (c.loop-i.invariant.1 ∙ seps_stop c.args.bytes.now c.loop-i.i c.loop-i-test.true (sym c.is_separator.ensures ∙ c.if-not-is_separator.true))
-
-pub loop-i-preserved : goal.loop-i-preserved
-loop-i-preserved c = (omega arith, c.loop-i.invariant.1 ∙ seps_more c.args.bytes.now c.loop-i.i c.loop-i-test.true (sym c.is_separator.ensures ∙ c.if-not-is_separator.false))
-
 pub returns : goal.returns
-returns c = sym (c.loop-i.invariant.1 ∙ seps_end c.args.bytes.now c.loop-i.i (le_antisymm c.loop-i.invariant.0 c.loop-i-test.false))
+returns c =
+    count_from_yields_List _ _ c.count.ensures.ran
+    (YieldsList-from_take_while _ is_separator (YieldsList-from_slice c.args.bytes.now cc) c.take_while.ensures.closure c.take_while.ensures.done (λ x b q k. search (rules, tests)))
+    ∙ length-prefix_len is_separator c.args.bytes.now ∙ sym (separators_are c.args.bytes.now)

@@ -7,8 +7,8 @@ use Rattle.pieces.specs.Answers.{measure_of}
 use Rattle.pieces.proofs.Walks.{after}
 use Rattle.pieces.proofs.measure.Given as goal
 
-abbrev pub invariant-loop-p : goal.invariant-loop-p
-invariant-loop-p l = (l.n ≤ l.p) × (after l.n (walk 0 (drop l.p l.input)) ≡ measure_of (walk 0 (drop l.from l.input)))
+abbrev pub invariant-loop-b : goal.invariant-loop-b
+invariant-loop-b l = (l.n ≤ l.p) × (after l.n (walk 0 (drop l.p l.input)) ≡ measure_of (walk 0 (drop l.from l.input)))
 
-abbrev pub decreases-loop-p : goal.decreases-loop-p
-decreases-loop-p l = length l.input - l.p
+abbrev pub decreases-loop-b : goal.decreases-loop-b
+decreases-loop-b l = length l.input - l.p

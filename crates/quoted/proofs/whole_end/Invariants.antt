@@ -7,8 +7,8 @@ use Rattle.marks.specs.Classes.{is_quote}
 use Rattle.quoted.specs.Inside.{whole_from}
 use Rattle.quoted.proofs.whole_end.Given as goal
 
-abbrev pub invariant-loop-p : goal.invariant-loop-p
-invariant-loop-p l = (l.p < length l.input → is_quote (get_or l.input l.p 0) ≡ true) × (whole_from l.input l.p ≡ whole_from l.input l.from)
+abbrev pub invariant-loop-b : goal.invariant-loop-b
+invariant-loop-b l = (l.p < length l.input → is_quote (get_or l.input l.p 0) ≡ true) × (whole_from l.input l.p ≡ whole_from l.input l.from)
 
-abbrev pub decreases-loop-p : goal.decreases-loop-p
-decreases-loop-p l = length l.input - l.p
+abbrev pub decreases-loop-b : goal.decreases-loop-b
+decreases-loop-b l = length l.input - l.p

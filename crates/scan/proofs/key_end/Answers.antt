@@ -1,6 +1,7 @@
 -- `key_end` meets its contract: a letter starts an unquoted string.
 use mathlib.Core.Path.{◌∙◌, sym, ap}
 use Prim.Native.Nat.{ℕ}
+use Rattle.std.specs.Prelude.{Some}
 use Rattle.refusal.specs.declared.Format.TheVariants.{Text}
 use Rattle.token.specs.Ends.{string_end}
 use Rattle.text.proofs.Callers.{letter_ends, letter_here}
@@ -15,13 +16,13 @@ returns-then-is_letter c =
     let s = x.input.now in
     let h = c.if-at-input.true in
     let l = sym c.is_letter.ensures ∙ c.if-is_letter.true in
-    c.plain_end.ensures ∙ letter_ends s x.at x.at (letter_here s x.at h l) h l
+    ap Some c.plain_end.ensures ∙ letter_ends s x.at x.at (letter_here s x.at h l) h l
 
 pub returns-then-is_letter-2 : goal.returns-then-is_letter-2
 unfolding kind_at token_from skip_of
 returns-then-is_letter-2 c =
     let x = c.args in
-    c.plain_end-then-is_letter-2.ensures
+    ap Some c.plain_end-then-is_letter-2.ensures
     ∙ letter_ends x.input.now x.at _ c.skip-p.ensures c.if-p-input.true (sym c.is_letter-then-p-input.ensures ∙ c.if-is_letter-2.true)
 
 pub returns : goal.returns

@@ -5,8 +5,8 @@ use Rattle.refusal.specs.declared.Format.TheVariants.{Text}
 use Rattle.scan.specs.Post.{Along}
 use Rattle.scan.proofs.past_text.Given as goal
 
-abbrev pub invariant-loop-from : goal.invariant-loop-from
-invariant-loop-from l = Along Text l.input l.from l.at
+abbrev pub invariant-loop-key : goal.invariant-loop-key
+invariant-loop-key l = Along Text l.input l.from l.at
 
-abbrev pub decreases-loop-from : goal.decreases-loop-from
-decreases-loop-from l = length l.input - l.at
+abbrev pub decreases-loop-key : goal.decreases-loop-key
+decreases-loop-key l = length l.input - l.at

@@ -2,6 +2,7 @@
 use mathlib.Core.Path.{◌∙◌, sym, ap}
 use Prim.Native.Nat.{ℕ}
 use native.Mathlib.Omega.{arith}
+use Rattle.std.specs.Prelude.{Some}
 use lib.ListN.{get_or}
 use Rattle.refusal.specs.Paper.{Paper, Spot}
 use Rattle.token.specs.declared.Token.{Token}
@@ -48,7 +49,7 @@ returns-then-starts_plain c =
     let x = c.args in
     let s = x.input.now in
     let b = get_or s x.p 0 in
-    c.plain_end.ensures
+    ap Some c.plain_end.ensures
     ∙ sym (ap (λ (q : Paper (Spot Token)). scalar_end (kinds_of q)) (something_started s x.p (omega arith) ∙ plain_starts s x.p b c.if-b-eq34.false (sym c.starts_plain.ensures ∙ c.if-starts_plain.true)))
 
 pub returns-then-b-eq35 : goal.returns-then-b-eq35

@@ -1,6 +1,7 @@
 -- `first_string_end` meets its contract.
 use mathlib.Core.Path.{◌∙◌, sym, ap}
 use native.Mathlib.Omega.{arith}
+use Rattle.std.specs.Prelude.{Some}
 use lib.ListN.{get_or}
 use Rattle.refusal.specs.Paper.{Paper, Spot}
 use Rattle.token.specs.declared.Token.{Token}
@@ -27,7 +28,7 @@ returns-then-starts_plain c =
     let x = c.args in
     let s = x.input.now in
     let b = get_or s x.p 0 in
-    c.plain_end.ensures
+    ap Some c.plain_end.ensures
     ∙ sym (ap (λ (q : Paper (Spot Token)). string_end (kinds_of q)) (something_started s x.p (omega arith) ∙ plain_starts s x.p b c.if-b-eq34.false (sym c.starts_plain.ensures ∙ c.if-starts_plain.true)))
 
 pub returns : goal.returns

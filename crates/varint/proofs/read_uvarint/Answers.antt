@@ -23,24 +23,24 @@ returns-then-left-i c =
 pub overflow_mul-value : goal.overflow_mul-value
 overflow_mul-value c =
     let l = c.loop-i in
-    record { fits = part_fits _ _ l.i c.if-input-at.false l.invariant.0 c.loop-i-test.true c.if-left-i.false c.wide-b.result l.value l.weight c.wide-b.ensures l.invariant.1 }
+    record { fits = part_fits _ _ l.i c.if-input-at.false l.invariant.0 c.loop-i-test.true c.if-left-i.false c.from-b.result l.value l.weight c.from-b.ensures l.invariant.1 }
 
 pub overflow_add-value : goal.overflow_add-value
 overflow_add-value c =
     let l = c.loop-i in
-    record { fits = sum_fits _ _ l.i c.if-input-at.false l.invariant.0 c.loop-i-test.true c.if-left-i.false c.wide-b.result l.value l.weight c.wide-b.ensures l.invariant.1 }
+    record { fits = sum_fits _ _ l.i c.if-input-at.false l.invariant.0 c.loop-i-test.true c.if-left-i.false c.from-b.result l.value l.weight c.from-b.ensures l.invariant.1 }
 
 pub returns-then-b-lt128 : goal.returns-then-b-lt128
 returns-then-b-lt128 c =
     let l = c.loop-i in
-    walk_value _ _ l.i c.if-input-at.false l.invariant.0 c.loop-i-test.true c.if-left-i.false c.wide-b.result l.value l.weight c.wide-b.ensures l.invariant.1 c.if-b-lt128.true
+    walk_value _ _ l.i c.if-input-at.false l.invariant.0 c.loop-i-test.true c.if-left-i.false c.from-b.result l.value l.weight c.from-b.ensures l.invariant.1 c.if-b-lt128.true
 
 pub overflow_mul-weight : goal.overflow_mul-weight
 overflow_mul-weight c =
     let l = c.loop-i in
-    record { fits = weight_fits _ _ l.i c.if-input-at.false l.invariant.0 c.loop-i-test.true c.if-left-i.false c.wide-b.result l.value l.weight c.wide-b.ensures l.invariant.1 }
+    record { fits = weight_fits _ _ l.i c.if-input-at.false l.invariant.0 c.loop-i-test.true c.if-left-i.false c.from-b.result l.value l.weight c.from-b.ensures l.invariant.1 }
 
 pub loop-i-preserved : goal.loop-i-preserved
 loop-i-preserved c =
     let l = c.loop-i in
-    (walk_on _ _ l.i c.if-input-at.false l.invariant.0 c.loop-i-test.true c.if-left-i.false (rw c.wide-b.ensures at c.if-b-lt128.false), sum_on _ _ l.i c.if-input-at.false l.invariant.0 c.loop-i-test.true c.if-left-i.false c.wide-b.result l.value l.weight c.wide-b.ensures l.invariant.1)
+    (walk_on _ _ l.i c.if-input-at.false l.invariant.0 c.loop-i-test.true c.if-left-i.false (rw c.from-b.ensures at c.if-b-lt128.false), sum_on _ _ l.i c.if-input-at.false l.invariant.0 c.loop-i-test.true c.if-left-i.false c.from-b.result l.value l.weight c.from-b.ensures l.invariant.1)

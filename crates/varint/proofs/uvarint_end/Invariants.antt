@@ -1,10 +1,6 @@
 -- `uvarint_end` meets its contract: the reader's walk, without its sum.
-use Prim.Native.Nat.{◌-◌}
 use Rattle.varint.proofs.Read.{Passed}
 use Rattle.varint.proofs.uvarint_end.Given as goal
 
 abbrev pub invariant-loop-i : goal.invariant-loop-i
 invariant-loop-i l = Passed l.input l.at l.i
-
-abbrev pub decreases-loop-i : goal.decreases-loop-i
-decreases-loop-i l = 9 - l.i
