@@ -2,7 +2,7 @@
 // specs/Readings.antt decides it with the automaton of crate `automaton`. Crate `kept` says how the open blocks are kept between pieces.
 #![tactic(auto)]
 
-ghost use Rattle.std.specs.Prelude.{◌≡◌, ◌≤◌, ◌<◌, ℕ, length, Ok, Err, OnOk, IfOk};
+ghost use Rattle.std.specs.Prelude.{◌≡◌, ◌≤◌, ◌<◌, ℕ, length, Ok, Err, IfOk};
 ghost use Rattle.lexer.specs.Lexer.{kind_at};
 ghost use Rattle.refusal.specs.Paper.{pick};
 ghost use Rattle.refusal.specs.Meaning.{why_of, unwhole_meaning};
@@ -10,7 +10,8 @@ ghost use Rattle.refusal.specs.declared.Format.TheVariants.{Binary};
 ghost use Rattle.automaton.specs.Limit.{most_open};
 ghost use Rattle.automaton.specs.Step.{after, opened, step};
 ghost use Rattle.kept.specs.Kept.{due_of, blocks_of};
-ghost use Rattle.blocks.specs.Moves.{kind_by, value_due, wrong_by, turned, turn_of, block_named, kind_byte, due_in, closing, innermost_of, refused_at};
+ghost use Rattle.blocks.specs.Moves.{kind_by, value_due, wrong_by, turned, turn_of, refused_at};
+ghost use Rattle.blocks.specs.Moves.{block_named, kind_byte, due_in, closing, innermost_of};
 ghost use Rattle.blocks.specs.Readings.{Onward, on_token, pass_of, run_meaning, not_whole, read_then};
 
 use kept::{Blocks, Due};
@@ -114,7 +115,8 @@ fn whole(blocks: &mut Blocks) -> bool
 #[tactic(auto, using(crate::proofs::Ways::opens_deep, crate::proofs::Ways::opens_room))]
 fn opened(blocks: &mut Blocks, block: Block) -> Result<bool, Why>
     requires { blocks.old.depth ≤ most_open }
-    ensures turn { turned result blocks.new ≡ turn_of blocks.old (opened (block_named block) (due_of (due_in block)) (blocks_of blocks.old)) }
+    ensures turn { turned result blocks.new ≡
+        turn_of blocks.old (opened (block_named block) (due_of (due_in block)) (blocks_of blocks.old)) }
     ensures few { blocks.new.depth ≤ most_open }
 {
     if blocks.depth == kept::MOST_OPEN {
@@ -229,7 +231,8 @@ struct Passed {
 fn read_token(blocks: &mut Blocks, input: &[u8], place: usize) -> Result<Passed, Unwhole>
     requires few { blocks.old.depth ≤ most_open }
     requires inside { place < length input.now }
-    ensures reads { (k : Onward) (n : ℕ) → read_then k place n result blocks.new ≡ on_token k place blocks.old n (kind_at Binary input.now place) }
+    ensures reads { (k : Onward) (n : ℕ) →
+        read_then k place n result blocks.new ≡ on_token k place blocks.old n (kind_at Binary input.now place) }
     ensures ahead { IfOk result (λ t. place < t.end) }
     ensures few { blocks.new.depth ≤ most_open }
 {

@@ -6,7 +6,7 @@
 
 ghost use Rattle.std.specs.Prelude.{◌≤◌, length};
 
-use reader::{Found, State, Taking};
+use reader::{Found, State};
 use std::io::{Read, Stdin};
 use std::ops::ControlFlow;
 
@@ -25,15 +25,14 @@ impl Rounds<'_> {
         let mut state = self.state;
         for _ in 0..u64::MAX {
             let next = state.next(self.buf);
-            state = next.state;
             self.readings = self.readings.wrapping_add(next.readings as u64);
             match next.answer {
-                Found::Record { .. } => self.records = self.records.wrapping_add(1),
-                Found::More => {
+                Ok(Found::Record { .. }) => self.records = self.records.wrapping_add(1),
+                Ok(Found::More) => {
                     self.state = state;
                     return ControlFlow::Continue(());
                 }
-                _ => break,
+                Ok(Found::End) | Err(_) => break,
             }
         }
         ControlFlow::Break(())
@@ -43,10 +42,8 @@ impl Rounds<'_> {
     fn pass(&mut self, stream: &[u8], size: usize) -> ControlFlow<()> {
         let mut rest = stream;
         while !rest.is_empty() {
-            let offered = self.state.offer(self.buf, &rest[..size.min(rest.len())]);
-            self.state = offered.state;
-            match offered.answer {
-                Taking::Taken { count } if count > 0 => rest = &rest[count.min(rest.len())..],
+            match self.state.offer(self.buf, &rest[..size.min(rest.len())]) {
+                Ok(count @ 1..) => rest = &rest[count.min(rest.len())..],
                 _ => return ControlFlow::Break(()),
             }
             self.drain()?;
@@ -60,7 +57,10 @@ impl Rounds<'_> {
         for _ in 0..times {
             self.pass(stream, size)?;
         }
-        self.state = self.state.close(self.buf).state;
+        // A state that cannot be closed is told by next.
+        let mut state = self.state;
+        let _ = state.close(self.buf);
+        self.state = state;
         self.drain()
     }
 }

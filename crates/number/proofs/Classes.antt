@@ -2,10 +2,12 @@
 use mathlib.Core.Path.{◌≡◌, refl, sym, ap, ◌∙◌}
 use mathlib.Core.Bool.{Bool, true, false, ◌&&◌, ◌||◌}
 use mathlib.Core.List.{List, [], ◌∷◌}
-use Prim.Native.Nat.{ℕ, ◌≤◌, ◌<◌}
+use Prim.Native.Nat.{ℕ, ◌≤◌}
 use native.Mathlib.Omega.{arith}
-use borrow.Author.Tests.{le-leb, lt-leb, leb-true, eqb-true, ne_eqb}
+use borrow.Author.Tests.{leb-true, eqb-true, ne_eqb}
 use lib.Dec.{eqb, leb}
+use Rattle.std.specs.Char.{is_ascii_digit}
+use Rattle.std.proofs.lemmas.Bool.Decides.{nat_tests}
 use Rattle.token.specs.Digits.{is_digit}
 use Rattle.number.specs.Bytes.{is_minus, is_sign, is_point, is_exponent, is_pointed, is_text, is_unsigned, starts}
 
@@ -33,7 +35,7 @@ and_left false q e = e
 
 pub and_right : (p q : Bool) → (p && q) ≡ true → q ≡ true
 and_right true q e = e
-and_right false q e = absurd (let z : ◌≡◌ {A = ℕ} 0 1 = cc in omega arith)
+and_right false q e = cc
 
 -- a byte of `x || y` is one of the two numbers
 either : (b x y : ℕ) (g : ℕ → Bool) → g x ≡ false → g y ≡ false → (eqb b x || eqb b y) ≡ true → g b ≡ false
@@ -43,13 +45,10 @@ either b x y g gx gy = go (eqb b x) refl
     go true e f = ap g (eqb-true b x e) ∙ gx
     go false e f = ap g (eqb-true b y f) ∙ gy
 
-pub digit_low : (b : ℕ) → b < 48 → false ≡ is_digit b
+-- the library's digits are those of text
+pub digit_is : (b : ℕ) → is_ascii_digit b ≡ is_digit b
 unfolding is_digit
-digit_low b h = rw (lt-leb 48 b h)
-
-pub digit_test : (b : ℕ) → 48 ≤ b → leb b 57 ≡ is_digit b
-unfolding is_digit
-digit_test b h = rw (le-leb 48 b h)
+digit_is b = grind (arith, nat_tests)
 
 pub digit_from : (b : ℕ) → is_digit b ≡ true → 48 ≤ b
 unfolding is_digit

@@ -9,6 +9,9 @@ use mathlib.Core.Logic.{◌⊎◌, inl, inr, ⊎_elim}
 use borrow.Author.Tests.{lt-ltb, le-ltb, ltb-false, eq-eqb, ne_eqb, not-true, not-false}
 use lib.Dec.{ltb, eqb}
 use lib.ListN.{length, get_or, drop, drop_of_length-le, length-drop}
+use Rattle.std.specs.Prelude.{Option, Some, None, IfSome, MatchOption}
+use Rattle.std.specs.Bool.{then_some}
+use Rattle.std.specs.Option.{option_eq}
 use Rattle.search.proofs.Laws.{drop_more}
 use Rattle.refusal.specs.Paper.{pick}
 use Rattle.refusal.proofs.Cases.{either}
@@ -16,9 +19,8 @@ use Rattle.marks.specs.Classes.{is_other}
 use Rattle.search.specs.First.{first_from}
 use Rattle.search.proofs.Laws.{first_found, same_at_first, from_ge, from_le}
 use Rattle.token.specs.Digits.{is_digit}
-use Rattle.number.specs.Bytes.{is_sign, is_point, is_exponent, starts, any}
-use Rattle.number.specs.Grammar.{past, after_sign, none, left, onward, spent, digits_left, point_left, mantissa_left, exponent_left, double_left, is_double}
-use Rattle.std.specs.Prelude.{Option, Some, None}
+use Rattle.number.specs.Bytes.{is_sign, is_point, is_exponent, starts}
+use Rattle.number.specs.Grammar.{past, after_sign, Left, none, left, onward, spent, digits_left, point_left, mantissa_left, exponent_left, double_left, is_double}
 use Rattle.number.specs.Places.{Leaves, left_at, MayLeave}
 use Rattle.number.proofs.Runs.{past_none, past_one, past_less}
 
@@ -93,10 +95,20 @@ module _ (s : List ℕ) (p : ℕ) where
   unfolding after_sign
   sign_out h = rw (drop_of_length-le s h)
 
--- ---- what is left from a place on
+-- a part that stands where a test holds
+pub tested : (s : List ℕ) (at : ℕ) (l : Left) (q : Bool) (r : ℕ) → (q ≡ true → left (drop r s) ≡ l) → (q ≡ false → none ≡ l) → r ≤ at + (length s - at) → MayLeave s at l (then_some q r)
+tested s at l true r h n k = record { rest = h refl; high = k }
+tested s at l false r h n k = record { rest = n refl; high = tt }
 
-pub left_at_lem : (s : List ℕ) (r : ℕ) (l : List ℕ) → drop r s ≡ l → left_at s (Some r) ≡ left l
-left_at_lem s r l e = ap left e
+-- what holds of a value that is given where a test holds, or kept where one does
+pub where_true : (P : ℕ → Type 0) (q : Bool) (v : ℕ) → (q ≡ true → P v) → IfSome (then_some q v) P
+where_true P true v h = h refl
+where_true P false v h = tt
+
+pub where_kept : (P : ℕ → Type 0) (Q : ℕ → Bool → Type 0) (o r : Option ℕ) → MatchOption o (r ≡ None) (λ x. (q : Bool) × Q x q × (r ≡ then_some q x))
+    → ((x : ℕ) → o ≡ Some x → Q x true → P x) → IfSome r P
+where_kept P Q None r h k = rw h tt
+where_kept P Q (Some x) r h k = rw h.2 (where_true P h.0 x (λ e. k x refl (rw e at h.1)))
 
 -- ---- exponents
 
@@ -159,36 +171,15 @@ module _ (s : List ℕ) (a b : ℕ) (e : Leaves s a (past is_digit (drop a s)) b
 
 -- ---- text that is a double's, whole
 
-module _ (t : List ℕ) (a : ℕ) (ae : Leaves t 0 (after_sign t) a) (q : Option ℕ) (qe : MayLeave t a (onward exponent_left (mantissa_left (drop a t))) q) where
-  double_left_lem : double_left t ≡ left_at t q
+module _ (t : List ℕ) (a : ℕ) (ae : Leaves t 0 (after_sign t) a) where
+  double_left_lem : (r : Option ℕ) → MayLeave t a (onward exponent_left (mantissa_left (drop a t))) r → double_left t ≡ left_at t r
   unfolding double_left
-  double_left_lem = ap (λ (k : List ℕ). onward exponent_left (mantissa_left k)) (sym ae.rest) ∙ sym qe.rest
-
-  pub double_none : q ≡ None → false ≡ is_double t
-  unfolding is_double
-  double_none e = sym (ap spent (double_left_lem ∙ ap (left_at t) e))
+  double_left_lem r re = ap (λ (k : List ℕ). onward exponent_left (mantissa_left k)) (sym ae.rest) ∙ sym re.rest
 
   spent_at : (r : ℕ) → r ≤ length t → spent (left (drop r t)) ≡ eqb r (length t)
   spent_at r h = ⊎_elim (λ k. rw (eq-eqb r (length t) k, drop_of_length-le t {i = r} (omega arith))) (λ k. rw (ne_eqb r (length t) (λ z. omega arith), drop_more t r k)) (eq-or-lt_of_le h)
 
-  pub double_whole : (r : ℕ) → q ≡ Some r → eqb r (length t) ≡ is_double t
+  pub double_whole : (r : Option ℕ) → MayLeave t a (onward exponent_left (mantissa_left (drop a t))) r → option_eq eqb r (Some (length t)) ≡ is_double t
   unfolding is_double
-  double_whole r e =
-      let h : r ≤ a + (length t - a) = rw e at qe.high in
-      sym (ap spent (double_left_lem ∙ ap (left_at t) e) ∙ spent_at r (omega (arith, ae.high)))
-
--- ---- a byte of a class somewhere
-
-module _ (f : ℕ → Bool) (s : List ℕ) (p : ℕ) where
-  pub any_out : length s ≤ p → false ≡ any f (drop p s)
-  unfolding any
-  any_out h = rw (drop_of_length-le s h)
-
-  module _ (h : p < length s) where
-    pub any_here : f (get_or s p 0) ≡ true → true ≡ any f (drop p s)
-    unfolding any
-    any_here e = rw (drop_more s p h, e)
-
-    pub any_more : f (get_or s p 0) ≡ false → any f (drop (p + 1) s) ≡ any f (drop p s)
-    unfolding any
-    any_more e = rw (drop_more s p h, e)
+  double_whole None re = sym (ap spent (double_left_lem None re))
+  double_whole (Some r) re = sym (ap spent (double_left_lem (Some r) re) ∙ spent_at r (omega (arith, re.high, ae.high)))

@@ -5,18 +5,18 @@ use mathlib.Core.List.{List, [], ◌∷◌, ◌++◌}
 use Prim.Native.Nat.{ℕ, ◌+◌, ◌-◌, ◌^◌, ◌≤◌, ◌<◌}
 use native.Mathlib.Omega.{arith}
 use lib.Dec.{lit≤}
-use Rattle.std.specs.Prelude.{Some}
 use lib.ListN.{length, get_or, drop, length-append, length-drop}
 use Rattle.refusal.specs.Paper.{pick}
 use Rattle.token.specs.Digits.{is_digit}
-use Rattle.number.specs.Bytes.{is_minus, is_pointed, is_text, is_unsigned, starts, any}
+use Rattle.number.specs.Bytes.{is_minus, is_sign, is_pointed, is_text, is_unsigned, starts, any}
 use Rattle.number.specs.Grammar.{front, past, after_sign, Left, none, left, onward, spent, mantissa_left, exponent_left, double_left, is_up_to, is_double}
 use Rattle.token.specs.Ends.{end_of}
 use Rattle.number.specs.Number.{is_uint64, is_int64, uint64_text, double_text, int64_text, number_at}
 use Rattle.number.specs.Places.{Leaves, MayLeave, Whole}
 use Rattle.number.proofs.Classes.{digit_in, minus_in, pointed_in, unsigned_apart, starts_less, starts_apart}
-use Rattle.number.proofs.Runs.{front_past, past_none, past_past, all_past, starts_append, starts_front, sign_append, sign_past, rest_any, then, digits_append, double_then, double_past}
-use Rattle.number.proofs.Ends.{starts_at, some_run, left_at_lem}
+use Rattle.number.proofs.Runs.{front_past, past_stops, past_none, past_past, all_past, starts_append, starts_front, sign_append, sign_past, rest_any, then, digits_append, double_then, double_past}
+use Rattle.number.proofs.Ends.{starts_at, some_run}
+use Rattle.std.specs.Prelude.{Some}
 use Rattle.number.proofs.Values.{few_digits}
 use Rattle.number.proofs.Tokens.{text_uint, text_double, text_int}
 
@@ -25,7 +25,7 @@ append_none [] x e = refl
 append_none (b ∷ z) x e = absurd (omega (arith, simp length-append at (ap length e)))
 
 spent_then : (y : List ℕ) (k : Left) → then y k ≡ left y → spent k ≡ true
-spent_then y none e = absurd (let z : ◌≡◌ {A = ℕ} 0 1 = cc in omega arith)
+spent_then y none e = cc
 spent_then y (left x) e = ap (λ (k : List ℕ). spent (left k)) (append_none x y (let z : x ++ y ≡ y = cc in z))
 
 starts_any : (f : ℕ → Bool) (l : List ℕ) → starts f l ≡ true → any f l ≡ true
@@ -80,6 +80,11 @@ module _ (s : List ℕ) (at a b : ℕ) (ae : Leaves s at (after_sign (drop at s)
 
   -- ---- digits, and no number text behind them
 
+  -- a byte behind the digits is none of them, and with no sign, no point and no exponent it is no number text
+  pub bare : (h : b < length s) → is_sign (get_or s b 0) ≡ false → is_pointed (get_or s b 0) ≡ false → starts is_text (drop b s) ≡ false
+  unfolding is_text
+  bare h e f = starts_at s b h is_text ∙ rw (sym (starts_at s b h is_digit) ∙ ap (starts is_digit) be.rest ∙ past_stops is_digit (drop a s), e, f)
+
   module _ (n : starts is_text (drop b s) ≡ false) where
     ends_here : past is_text (drop at s) ≡ drop b s
     ends_here = sym (sign_past (drop at s)) ∙ sym (past_past is_digit is_text digit_in (after_sign (drop at s))) ∙ ap (past is_text) rest_is ∙ past_none is_text (drop b s) n
@@ -124,7 +129,7 @@ module _ (s : List ℕ) (at a b : ℕ) (ae : Leaves s at (after_sign (drop at s)
   module _ (h : b < length s) (p : is_pointed (get_or s b 0) ≡ true) (q : ℕ) (qe : MayLeave s a (onward exponent_left (mantissa_left (drop a s))) (Some q)) (w : Whole s q) where
     left_is : double_left (drop at s) ≡ left (drop q s)
     unfolding double_left
-    left_is = ap (λ (k : List ℕ). onward exponent_left (mantissa_left k)) (sym ae.rest) ∙ sym qe.rest ∙ left_at_lem s q (drop q s) refl
+    left_is = ap (λ (k : List ℕ). onward exponent_left (mantissa_left k)) (sym ae.rest) ∙ sym qe.rest
 
     ends_there : past is_text (drop at s) ≡ drop q s
     ends_there = sym (double_past (drop at s) (drop q s) left_is) ∙ past_none is_text (drop q s) w.stops

@@ -63,30 +63,30 @@ record Same (t₀ : Token) (at₀ n₀ : ℕ) (t : Token) (at n : ℕ) : Type 0 
 module _ (t₀ : Token) (at₀ n₀ k₀ : ℕ) (vs₀ : List ℕ) where
   answer_true : (q : Bool) (t : Token) (a n : ℕ) → pick q (gives (spot t₀ at₀ n₀)) (refused k₀ vs₀) ≡ gives (spot t a n) → q ≡ true
   answer_true true t a n e = refl
-  answer_true false t a n e = absurd (let z : ◌≡◌ {A = ℕ} 0 1 = cc in omega arith)
+  answer_true false t a n e = cc
 
   answer_same : (q : Bool) (t : Token) (a n : ℕ) → pick q (gives (spot t₀ at₀ n₀)) (refused k₀ vs₀) ≡ gives (spot t a n) → Same t₀ at₀ n₀ t a n
   answer_same true t a n e = record { token = (cc); first = (cc); next = (cc) }
-  answer_same false t a n e = absurd (let z : ◌≡◌ {A = ℕ} 0 1 = cc in omega arith)
+  answer_same false t a n e = cc
 
   answer_refused : (at : ℕ) → BadNumber at k₀ vs₀ → (q : Bool) (k : ℕ) (vs : List ℕ) → pick q (gives (spot t₀ at₀ n₀)) (refused k₀ vs₀) ≡ refused k vs → BadNumber at k vs
-  answer_refused at d true k vs e = absurd (let z : ◌≡◌ {A = ℕ} 0 1 = cc in omega arith)
+  answer_refused at d true k vs e = cc
   answer_refused at d false k vs e = let f : k₀ ≡ k = cc in let g : vs₀ ≡ vs = cc in rw (← f, ← g) d
 
   answer_settled : (q : Bool) → pick q (gives (spot t₀ at₀ n₀)) (refused k₀ vs₀) ≡ more → ⊥
-  answer_settled true e = let z : ◌≡◌ {A = ℕ} 0 1 = cc in omega arith
-  answer_settled false e = let z : ◌≡◌ {A = ℕ} 0 1 = cc in omega arith
+  answer_settled true e = cc
+  answer_settled false e = cc
 
 -- ---- the answer for number text
 
 some_int : (l : List ℕ) → is_int64 l ≡ true → 0 < length l
 unfolding is_int64 is_up_to is_decimal after_sign
-some_int [] e = absurd (let z : ◌≡◌ {A = ℕ} 0 1 = cc in omega arith)
+some_int [] e = cc
 some_int (b ∷ l) e = omega arith
 
 some_double : (l : List ℕ) → is_double l ≡ true → 0 < length l
 unfolding is_double double_left mantissa_left point_left past after_sign
-some_double [] e = absurd (let z : ◌≡◌ {A = ℕ} 0 1 = cc in omega arith)
+some_double [] e = cc
 some_double (b ∷ l) e = omega arith
 
 -- what an accepted text says of its token
@@ -152,7 +152,7 @@ three m n = go (ltb m n) (eqb m n) refl refl
     go false false d e = let f = eqb-false m n e in inr (inr (omega (arith, ltb-false m n d)))
 
 unsigned_some : (l : List ℕ) → starts is_unsigned l ≡ true → 0 < length l
-unsigned_some [] e = absurd (let z : ◌≡◌ {A = ℕ} 0 1 = cc in omega arith)
+unsigned_some [] e = cc
 unsigned_some (b ∷ l) e = omega arith
 
 module _ (s : List ℕ) (at : ℕ) where
@@ -176,8 +176,8 @@ module _ (s : List ℕ) (at : ℕ) where
     -- a number's token starts at its place, is not empty, and ends within the slice
     pub number_lies : number_at s at ≡ gives (spot t a n) → Lies s at t a n
     number_lies e =
-        ⊎_elim (λ h. absurd (let f = beyond s at h in let z : ◌≡◌ {A = ℕ} 0 1 = cc in omega arith))
-        (⊎_elim (λ h. absurd (let f = ended s at h in let z : ◌≡◌ {A = ℕ} 0 1 = cc in omega arith)) (λ h. lies_inside h (inside s at h ∙ e)))
+        ⊎_elim (λ h. cc (beyond s at h))
+        (⊎_elim (λ h. cc (ended s at h)) (λ h. lies_inside h (inside s at h ∙ e)))
         (three (length s) at)
 
   -- a refusal of number text is 6, 7 or 8 at the place; 26 beyond the slice
@@ -185,7 +185,7 @@ module _ (s : List ℕ) (at : ℕ) where
   unfolding number_of
   number_refused k vs e =
       ⊎_elim (λ h. let f = beyond s at h in let g : beyond_slice ≡ k = cc in let i : [] ≡ vs = cc in rw (← g, ← i) (outside h))
-      (⊎_elim (λ h. absurd (let f = ended s at h in let z : ◌≡◌ {A = ℕ} 0 1 = cc in omega arith))
+      (⊎_elim (λ h. cc (ended s at h))
       (λ h. bad h (refused_text at (front is_text (drop at s)) (starts is_unsigned (past is_text (drop at s))) k vs (inside s at h ∙ e))))
       (three (length s) at)
 
@@ -200,8 +200,8 @@ module _ (s : List ℕ) (at : ℕ) where
     where
       go : (r : Paper (Spot Token)) → number_at s at ≡ r → end_of r ≡ Some n → (t : Token) × (number_at s at ≡ gives (spot t at n))
       go (gives (spot t a m)) f g = let i : m ≡ n = cc in (t, f ∙ rw ((number_lies t a m f).here, i))
-      go more f g = absurd cc
-      go (refused q vs) f g = absurd cc
+      go more f g = cc
+      go (refused q vs) f g = cc
 
   -- where there is none there is no token
   pub end_none : end_of (number_at s at) ≡ None → (t : Token) (a n : ℕ) → number_at s at ≡ gives (spot t a n) → ⊥

@@ -1,11 +1,18 @@
 -- Laws of the bytes in front and what is left behind them, and of each part of the grammar when bytes that are no number text follow.
 -- Assumes nothing.
 use mathlib.Core.Path.{◌≡◌, refl, sym, ap, ◌∙◌}
-use mathlib.Core.Bool.{Bool, true, false, ◌&&◌, ◌||◌}
+use mathlib.Core.Bool.{Bool, true, false, cond, not, ◌&&◌, ◌||◌}
 use mathlib.Core.List.{List, [], ◌∷◌, ◌++◌}
-use Prim.Native.Nat.{ℕ, suc, ◌≤◌, ◌<◌}
+use Prim.Native.Nat.{ℕ, suc, ◌+◌, ◌-◌, ◌≤◌, ◌<◌}
 use native.Mathlib.Omega.{arith}
-use lib.ListN.{length}
+use lib.ListN.{length, take, drop, length-drop}
+use Rattle.std.specs.List.{list_any, prefix_len, position}
+use Rattle.std.specs.Prelude.{Option, Some, None, unwrap_or, nat_lt}
+use Rattle.std.proofs.lemmas.Bool.Decides.{nat_tests}
+use lib.Seq.{drop-drop}
+use Rattle.number.specs.Places.{Leaves}
+use Rattle.std.proofs.lemmas.List.{take_rest}
+use Rattle.std.proofs.lemmas.List.Sums.{prefix_len-le-length}
 use Rattle.refusal.specs.Paper.{pick}
 use Rattle.token.specs.Digits.{is_digit}
 use Rattle.number.specs.Bytes.{is_sign, is_point, is_exponent, is_pointed, is_text, starts, any, all}
@@ -13,6 +20,10 @@ use Rattle.number.specs.Grammar.{front, past, after_sign, Left, none, left, onwa
 use Rattle.number.proofs.Classes.{In, Apart, digit_in, sign_in, point_in, exponent_in, digit_apart, sign_apart, starts_less}
 
 -- ---- bytes of a class in front
+
+-- a place that is given where it is less than the length
+or_length : (m n : ℕ) → m ≤ n → unwrap_or (cond (nat_lt m n) (Some m) None) n ≡ m
+or_length m n h = grind (arith, nat_tests)
 
 module _ (f : ℕ → Bool) where
   pub front_past : (l : List ℕ) → front f l ++ past f l ≡ l
@@ -62,7 +73,7 @@ module _ (f : ℕ → Bool) where
 
   pub past_less : (l : List ℕ) → starts f l ≡ true → length (past f l) < length l
   unfolding past
-  past_less [] e = absurd (let z : ◌≡◌ {A = ℕ} 0 1 = cc in omega arith)
+  past_less [] e = cc
   past_less (b ∷ l) e = rw e (omega (arith, past_length l))
 
   -- text that is all of one class leaves nothing
@@ -73,11 +84,42 @@ module _ (f : ℕ → Bool) where
     where
       go : (q : Bool) → (past f l ≡ [] → all f l ≡ true) → pick q (past f l) (b ∷ l) ≡ [] → (q && all f l) ≡ true
       go true h e = h e
-      go false h e = absurd (let z : ◌≡◌ {A = ℕ} 0 1 = cc in omega arith)
+      go false h e = cc
 
   pub starts_append : (l y : List ℕ) → starts f y ≡ false → starts f (l ++ y) ≡ starts f l
   starts_append [] y e = e
   starts_append (b ∷ l) y e = refl
+
+  -- where the library's test first fails, what is left stands
+  past_prefix : (l : List ℕ) → drop (prefix_len (λ b. not (not (f b))) l) l ≡ past f l
+  unfolding past
+  past_prefix [] = refl
+  past_prefix (b ∷ l) = go (f b) (past_prefix l)
+    where
+      go : (q : Bool) → drop (prefix_len (λ b. not (not (f b))) l) l ≡ past f l → drop (cond (not (not q)) (1 + prefix_len (λ b. not (not (f b))) l) 0) (b ∷ l) ≡ pick q (past f l) (b ∷ l)
+      go true h = rw one h
+        where
+          one : 1 + prefix_len (λ b. not (not (f b))) l ≡ suc (prefix_len (λ b. not (not (f b))) l)
+          one = omega arith
+      go false h = refl
+
+  -- so its place, or the length where it never fails, is where the bytes of the class end
+  pub position_past : (s : List ℕ) (p n : ℕ) (o : Option ℕ) → p ≤ length s → o ≡ position (λ b. not (f b)) (take (length s - p) (drop p s))
+      → n ≡ unwrap_or o (length (take (length s - p) (drop p s))) → Leaves s p (past f (drop p s)) (p + n)
+  position_past s p n o h e k = record {
+    rest = rw same (sym (drop-drop (prefix_len (λ b. not (not (f b))) (drop p s)) p s) ∙ past_prefix (drop p s));
+    low = omega arith;
+    high = omega (arith, same, prefix_len-le-length (λ b. not (not (f b))) (drop p s), length-drop p s);
+  }
+    where
+      same : n ≡ prefix_len (λ b. not (not (f b))) (drop p s)
+      same = rw take_rest at k ∙ rw (e, take_rest) (or_length _ _ (prefix_len-le-length (λ b. not (not (f b))) (drop p s)))
+
+  -- and some byte is of the class where the library says so
+  pub any_is : (l : List ℕ) → list_any f l ≡ any f l
+  unfolding any
+  any_is [] = refl
+  any_is (b ∷ l) = rw (any_is l)
 
 -- a class in another is passed over by it
 pub past_past : (f g : ℕ → Bool) → In f g → (l : List ℕ) → past g (past f l) ≡ past g l
@@ -97,7 +139,7 @@ starts_front f g i (b ∷ l) = go (f b) (g b) refl refl
     go : (p q : Bool) → f b ≡ p → g b ≡ q → starts f (pick q (b ∷ front g l) []) ≡ f b
     go p true d e = refl
     go false false d e = sym d
-    go true false d e = absurd (let z : ◌≡◌ {A = ℕ} 0 1 = cc (i b d) in omega arith)
+    go true false d e = cc (i b d)
 
 pub any_past : (f g : ℕ → Bool) → Apart f g → (l : List ℕ) → any g (past f l) ≡ any g l
 unfolding past any
@@ -213,7 +255,7 @@ module _ (y : List ℕ) (e : starts is_text y ≡ false) where
 
 pick_left : (q : Bool) (a x : List ℕ) → pick q (left a) none ≡ left x → a ≡ x
 pick_left true a x e = cc
-pick_left false a x e = absurd (let z : ◌≡◌ {A = ℕ} 0 1 = cc in omega arith)
+pick_left false a x e = cc
 
 digits_past : (l x : List ℕ) → digits_left l ≡ left x → past is_text x ≡ past is_text l
 unfolding digits_left
@@ -246,7 +288,7 @@ unfolding mantissa_left
 mantissa_past l x e = point_past (starts is_digit l) (past is_digit l) x e ∙ past_past is_digit is_text digit_in l
 
 onward_past : (l : List ℕ) (k : Left) → mantissa_left l ≡ k → (x : List ℕ) → onward exponent_left k ≡ left x → past is_text x ≡ past is_text l
-onward_past l none m x e = absurd (let z : ◌≡◌ {A = ℕ} 0 1 = cc in omega arith)
+onward_past l none m x e = cc
 onward_past l (left w) m x e = exponent_past w x e ∙ mantissa_past l w m
 
 pub double_past : (l x : List ℕ) → double_left l ≡ left x → past is_text x ≡ past is_text l

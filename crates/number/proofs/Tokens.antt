@@ -1,28 +1,50 @@
 -- Each way to the answer about a number: from what its text says, and from the place where its text ends. Assumes nothing.
-use mathlib.Core.Path.{◌≡◌, sym, ap, ◌∙◌}
-use mathlib.Core.Bool.{true, false}
+use mathlib.Core.Path.{◌≡◌, refl, sym, ap, ◌∙◌}
+use mathlib.Core.Bool.{Bool, true, false}
 use mathlib.Core.List.{List, [], ◌∷◌, ◌++◌}
-use Prim.Native.Nat.{ℕ, ◌+◌, ◌-◌, ◌^◌, ◌≤◌, ◌<◌}
+use Prim.Native.Nat.{ℕ, ◌+◌, ◌-◌, ◌≤◌, ◌<◌}
 use native.Mathlib.Omega.{arith}
 use borrow.Author.Tests.{lt-ltb, le-ltb, eq-eqb, ne_eqb}
-use lib.IntN.{ℤ, pos, neg_ℤ}
+use lib.IntN.{ℤ}
 use lib.ListN.{length, drop, take, length-append, length-drop}
 use lib.Seq.{take_at}
 use Rattle.refusal.specs.Numbers.{bad_uint64, bad_double, bad_int64, beyond_slice}
-use Rattle.refusal.specs.Paper.{gives, more, refused, spot}
+use Rattle.refusal.specs.Paper.{gives, more, refused, spot, pick}
 use Rattle.token.specs.declared.Token.TheVariants.{Int64, Uint64, Decimal}
-use Rattle.number.specs.Bytes.{is_minus, is_pointed, is_text, is_unsigned, starts, any}
-use Rattle.number.specs.Grammar.{front, past, after_sign, is_double}
+use Rattle.number.specs.Bytes.{is_pointed, is_text, is_unsigned, starts, any}
+use Rattle.number.specs.Grammar.{front, past, after_sign, value, is_double}
 use Rattle.number.specs.Number.{is_uint64, is_int64, int64_of, uint64_text, double_text, int64_text, number_text, number_of, number_at}
-use Rattle.number.specs.Places.{up_to}
 use Rattle.std.specs.Prelude.{Some, None}
+use Rattle.token.specs.declared.Token.{Token}
+use Rattle.number.specs.Places.{uint64_in, int64_in}
 use Rattle.number.proofs.Runs.{front_past}
-use Rattle.number.proofs.Values.{up_to_true, up_to_value, up_to_bad}
+
+-- a test decides whether there is a value, and so whether there is its token
+module _ {A : Type 0} (T : A → Token) (k at next : ℕ) where
+  given : (q : Bool) (a v : A) → Some v ≡ pick q (Some a) None → gives (spot (T v) at next) ≡ pick q (gives (spot (T a) at next)) (refused k (at ∷ []))
+  given true a v e = let f : v ≡ a = cc in ap (λ (x : A). gives (spot (T x) at next)) f
+  given false a v e = cc
+
+  refusal : (q : Bool) (a : A) → None ≡ pick q (Some a) None → refused k (at ∷ []) ≡ pick q (gives (spot (T a) at next)) (refused k (at ∷ []))
+  refusal true a e = cc
+  refusal false a e = refl
 
 module _ (at next : ℕ) (l : List ℕ) where
-  pub uint_minus : starts is_minus l ≡ true → refused bad_uint64 (at ∷ []) ≡ uint64_text at next l
-  unfolding uint64_text is_uint64
-  uint_minus m = rw m
+  pub uint_some : (v : ℕ) → Some v ≡ uint64_in l → gives (spot (Uint64 v) at next) ≡ uint64_text at next l
+  unfolding uint64_text
+  uint_some v e = given (λ (n : ℕ). Uint64 n) bad_uint64 at next (is_uint64 l) (value (after_sign l)) v e
+
+  pub uint_none : None ≡ uint64_in l → refused bad_uint64 (at ∷ []) ≡ uint64_text at next l
+  unfolding uint64_text
+  uint_none e = refusal (λ (n : ℕ). Uint64 n) bad_uint64 at next (is_uint64 l) (value (after_sign l)) e
+
+  pub int_some : (z : ℤ) → Some z ≡ int64_in l → gives (spot (Int64 z) at next) ≡ int64_text at next l
+  unfolding int64_text
+  int_some z e = given (λ (n : ℤ). Int64 n) bad_int64 at next (is_int64 l) (int64_of l) z e
+
+  pub int_none : None ≡ int64_in l → refused bad_int64 (at ∷ []) ≡ int64_text at next l
+  unfolding int64_text
+  int_none e = refusal (λ (n : ℤ). Int64 n) bad_int64 at next (is_int64 l) (int64_of l) e
 
   pub double_yes : is_double l ≡ true → gives (spot (Decimal at (length l)) at next) ≡ double_text at next l
   unfolding double_text
@@ -31,32 +53,6 @@ module _ (at next : ℕ) (l : List ℕ) where
   pub double_no : is_double l ≡ false → refused bad_double (at ∷ []) ≡ double_text at next l
   unfolding double_text
   double_no e = rw e
-
-  -- the magnitude of what stands behind the sign
-  module _ (x : List ℕ) (xe : x ≡ after_sign l) where
-    pub uint_value : starts is_minus l ≡ false → (v : ℕ) → up_to (2 ^ 64 - 1) x ≡ Some v → gives (spot (Uint64 v) at next) ≡ uint64_text at next l
-    unfolding uint64_text is_uint64
-    uint_value m v e = rw (m, ← xe, up_to_true _ x v e, up_to_value _ x v e)
-
-    pub uint_bad : starts is_minus l ≡ false → up_to (2 ^ 64 - 1) x ≡ None → refused bad_uint64 (at ∷ []) ≡ uint64_text at next l
-    unfolding uint64_text is_uint64
-    uint_bad m e = rw (m, ← xe, up_to_bad _ x e)
-
-    pub minus_value : starts is_minus l ≡ true → (v : ℕ) → up_to (2 ^ 63) x ≡ Some v → (z : ℤ) → z ≡ neg_ℤ (pos v) → gives (spot (Int64 z) at next) ≡ int64_text at next l
-    unfolding int64_text is_int64 int64_of
-    minus_value m v e z ze = rw (m, ← xe, up_to_true _ x v e, up_to_value _ x v e, ze)
-
-    pub minus_bad : starts is_minus l ≡ true → up_to (2 ^ 63) x ≡ None → refused bad_int64 (at ∷ []) ≡ int64_text at next l
-    unfolding int64_text is_int64
-    minus_bad m e = rw (m, ← xe, up_to_bad _ x e)
-
-    pub plus_value : starts is_minus l ≡ false → (v : ℕ) → up_to (2 ^ 63 - 1) x ≡ Some v → (z : ℤ) → z ≡ pos v → gives (spot (Int64 z) at next) ≡ int64_text at next l
-    unfolding int64_text is_int64 int64_of
-    plus_value m v e z ze = rw (m, ← xe, up_to_true _ x v e, up_to_value _ x v e, ze)
-
-    pub plus_bad : starts is_minus l ≡ false → up_to (2 ^ 63 - 1) x ≡ None → refused bad_int64 (at ∷ []) ≡ int64_text at next l
-    unfolding int64_text is_int64
-    plus_bad m e = rw (m, ← xe, up_to_bad _ x e)
 
 module _ (s : List ℕ) (at : ℕ) where
   pub beyond : length s < at → refused beyond_slice [] ≡ number_at s at

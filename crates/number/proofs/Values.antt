@@ -12,7 +12,7 @@ use Rattle.refusal.specs.Paper.{pick}
 use Rattle.token.specs.Digits.{is_digit}
 use Rattle.number.specs.Bytes.{starts, all}
 use Rattle.number.specs.Grammar.{is_decimal, value_after, value, is_up_to}
-use Rattle.number.specs.Places.{up_to, AtMost}
+use Rattle.number.specs.Places.{up_to}
 use Rattle.std.specs.Prelude.{Option, Some, None}
 use Rattle.number.proofs.Classes.{digit_to, and_left, and_right}
 use Rattle.search.proofs.Laws.{drop_more}
@@ -76,15 +76,15 @@ module _ (t : List ℕ) (limit : ℕ) (i : ℕ) where
 module _ (limit : ℕ) (l : List ℕ) where
   value_true : (q : Bool) (v : ℕ) → pick q (Some (value l)) None ≡ Some v → q ≡ true
   value_true true v e = refl
-  value_true false v e = absurd (let z : ◌≡◌ {A = ℕ} 0 1 = cc in omega arith)
+  value_true false v e = cc
 
   value_same : (q : Bool) (v : ℕ) → pick q (Some (value l)) None ≡ Some v → value l ≡ v
   value_same true v e = cc
-  value_same false v e = absurd (let z : ◌≡◌ {A = ℕ} 0 1 = cc in omega arith)
+  value_same false v e = cc
 
   bad_false : (q : Bool) → pick q (Some (value l)) None ≡ None → q ≡ false
   bad_false false e = refl
-  bad_false true e = absurd (let z : ◌≡◌ {A = ℕ} 0 1 = cc in omega arith)
+  bad_false true e = cc
 
   pub up_to_true : (v : ℕ) → up_to limit l ≡ Some v → is_up_to limit l ≡ true
   unfolding up_to
@@ -97,9 +97,6 @@ module _ (limit : ℕ) (l : List ℕ) where
   pub up_to_bad : up_to limit l ≡ None → is_up_to limit l ≡ false
   unfolding up_to
   up_to_bad e = bad_false (is_up_to limit l) e
-
-pub at_most : (m : Option ℕ) (v : ℕ) → m ≡ Some v → (n : ℕ) → AtMost m n → v ≤ n
-at_most m v e n h = rw e at h
 
 -- ---- so many digits write a number below that power of ten
 

@@ -8,7 +8,8 @@ ghost use Rattle.places.specs.Places.{most_offset};
 ghost use Rattle.blocks.specs.Readings.{what_meaning, run_meaning};
 ghost use Rattle.reader.specs.Fits.{fits, Fitting};
 ghost use Rattle.reader.specs.Meaning.{looked, found_meaning, opened_meaning, offered_meaning, closed_meaning, next_meaning};
-ghost use Rattle.reader.specs.Calls.{new_state, open_of, offer_of, buffer_of, close_of, skipped_of, mark_of, wait_of, hand_out, next_of, Within};
+ghost use Rattle.reader.specs.Calls.{new_state, open_of, offer_of, buffer_of, close_of, next_of};
+ghost use Rattle.reader.specs.Calls.{skipped_of, mark_of, wait_of, hand_out, Within};
 
 use blocks::Run;
 use kept::Blocks;

@@ -4,7 +4,8 @@
 #![tactic(auto)]
 
 use output::Text;
-use reader::{Found, Mark, State, Taking};
+use reader::{Found, Mark, NotTaken, State, Stopped};
+use refusal::Cause;
 use std::io::{Read, Stdin, Stdout, Write};
 
 // More than the longest line.
@@ -98,27 +99,27 @@ impl Stream<'_, '_> {
     fn drain(&mut self) -> Result<(), Stop> {
         let mut state = self.state;
         for _ in 0..u64::MAX {
-            let next = state.next(self.buf);
-            state = next.state;
-            let (number, offset) = match next.answer {
-                Found::Record {
-                    length,
-                    offset,
-                    mark,
-                    ..
-                } => {
+            let (cause, offset) = match state.next(self.buf).answer {
+                Ok(
+                    Found::Record {
+                        length,
+                        offset,
+                        mark,
+                        ..
+                    },
+                ) => {
                     self.lines.record(offset, length, mark)?;
                     self.records = self.records.wrapping_add(1);
                     continue;
                 }
-                Found::More => break,
-                Found::End => return self.lines.end(state.offset, self.records),
-                Found::Malformed { offset, .. } => (refusal::MALFORMED_RECORD, offset),
-                Found::TooLong { offset, .. } => (refusal::RECORD_TOO_LONG, offset),
-                Found::CutShort { offset, .. } => (refusal::CUT_SHORT, offset),
-                Found::StrangeState => (refusal::STRANGE_STATE, 0),
+                Ok(Found::More) => break,
+                Ok(Found::End) => return self.lines.end(state.offset, self.records),
+                Err(Stopped::Malformed { offset, .. }) => (Cause::MalformedRecord, offset),
+                Err(Stopped::TooLong { offset, .. }) => (Cause::RecordTooLong, offset),
+                Err(Stopped::CutShort { offset, .. }) => (Cause::CutShort, offset),
+                Err(Stopped::StrangeState) => (Cause::StrangeState, 0),
             };
-            return self.lines.refused(number, offset);
+            return self.lines.refused(cause.number(), offset);
         }
         self.state = state;
         Ok(())
@@ -128,19 +129,17 @@ impl Stream<'_, '_> {
     fn feed(&mut self, piece: &[u8]) -> Result<(), Stop> {
         let mut rest = piece;
         while !rest.is_empty() {
-            let offered = self.state.offer(self.buf, rest);
-            self.state = offered.state;
-            let number = match offered.answer {
-                Taking::Taken { count } if count > 0 => {
+            let number = match self.state.offer(self.buf, rest) {
+                Ok(count @ 1..) => {
                     rest = &rest[count.min(rest.len())..];
                     self.drain()?;
                     continue;
                 }
                 // No refusal has this number.
-                Taking::Taken { .. } => 0,
-                Taking::StrangeState => refusal::STRANGE_STATE,
-                Taking::AfterClosing => refusal::AFTER_CLOSING,
-                Taking::OffsetTooHigh => refusal::OFFSET_TOO_HIGH,
+                Ok(0) => 0,
+                Err(NotTaken::StrangeState) => refusal::STRANGE_STATE,
+                Err(NotTaken::AfterClosing) => refusal::AFTER_CLOSING,
+                Err(NotTaken::OffsetTooHigh) => refusal::OFFSET_TOO_HIGH,
             };
             return self.lines.refused(number, self.state.offset);
         }
@@ -149,7 +148,10 @@ impl Stream<'_, '_> {
 
     // No piece follows: the stream is closed, and next called again until it stops.
     fn finish(&mut self) -> Result<(), Stop> {
-        self.state = self.state.close(self.buf).state;
+        // A state that cannot be closed is told by next.
+        let mut state = self.state;
+        let _ = state.close(self.buf);
+        self.state = state;
         self.drain()
     }
 

@@ -2,30 +2,140 @@
 // byte. Here eight bytes are looked at by their marks, which crate `marks` makes, and long runs are passed by blocks of 32 bytes.
 #![tactic(auto)]
 
-ghost use Rattle.std.specs.Prelude.{◌≡◌, ◌+◌, ◌≤◌, ◌<◌, length};
+ghost use Rattle.std.specs.Prelude.{◌≡◌, ◌+◌, ◌≤◌, ◌<◌, ℕ, Bool, length};
 ghost use Rattle.marks.specs.Classes.{is_byte, is_quote, is_other};
+ghost use Rattle.word.specs.Word.{marks_at};
 ghost use Rattle.search.specs.First.{first_from, Before, is_joint, is_edge};
 
-// Whether a byte is a quote or a backslash.
-fn is_quote(b: u8) -> bool
-    ensures { result ≡ is_quote b }
+// A kind of byte that is looked for.
+trait Class: Copy {
+    ghost is: { Self → ℕ → Bool };
+
+    // Whether a byte is of the kind.
+    fn holds(self, b: u8) -> bool
+        ensures { result ≡ is self b };
+}
+
+// One that eight bytes at once are marked by.
+trait Marked: Class {
+    // A mark in the top bit of each of the eight bytes from `p` on that is of the kind.
+    fn marks(self, s: &[u8], p: usize) -> u64
+        ensures { result ≡ marks_at (Self.is self) 8 s.now p };
+}
+
+// This byte.
+#[derive(Clone, Copy)]
+struct Byte {
+    byte: u8,
+}
+
+impl Class for Byte {
+    ghost is = { λ k b. is_byte k.byte b };
+
+    fn holds(self, b: u8) -> bool {
+        b == self.byte
+    }
+}
+
+impl Marked for Byte {
+    fn marks(self, s: &[u8], p: usize) -> u64 {
+        marks::byte_marks(s, p, self.byte)
+    }
+}
+
+// A quote or a backslash.
+#[derive(Clone, Copy)]
+struct Quote;
+
+impl Class for Quote {
+    ghost is = { λ _ b. is_quote b };
+
+    fn holds(self, b: u8) -> bool {
+        (b == b'"') | (b == b'\\')
+    }
+}
+
+impl Marked for Quote {
+    fn marks(self, s: &[u8], p: usize) -> u64 {
+        marks::quote_marks(s, p)
+    }
+}
+
+// No digit.
+#[derive(Clone, Copy)]
+struct Other;
+
+impl Class for Other {
+    ghost is = { λ _ b. is_other b };
+
+    fn holds(self, b: u8) -> bool {
+        !((b'0' <= b) & (b <= b'9'))
+    }
+}
+
+impl Marked for Other {
+    fn marks(self, s: &[u8], p: usize) -> u64 {
+        marks::other_marks(s, p)
+    }
+}
+
+// No letter, digit, `_`, `-` or `.`: no unquoted string runs over it.
+#[derive(Clone, Copy)]
+struct Edge;
+
+impl Class for Edge {
+    ghost is = { λ _ b. is_edge b };
+
+    fn holds(self, b: u8) -> bool {
+        let letter = ((b'A' <= b) & (b <= b'Z')) | ((b'a' <= b) & (b <= b'z'));
+        !(letter | is_joint(b))
+    }
+}
+
+// The first place from `at` on with a byte of a kind, or the end; `at` itself where it lies beyond the slice. Byte by byte.
+fn by_bytes<C: Class>(s: &[u8], at: usize, class: C) -> usize
+    ensures { result ≡ first_from (C.is class) s.now at }
 {
-    (b == 34) | (b == 92)
+    for p in at..s.len() {
+        if class.holds(s[p]) {
+            return p;
+        }
+    }
+    at.max(s.len())
+}
+
+// The same by words of eight bytes.
+fn by_words<C: Marked>(s: &[u8], at: usize, class: C) -> usize
+    ensures { result ≡ first_from (C.is class) s.now at }
+{
+    if s.len() < 8 {
+        return by_bytes(s, at, class);
+    }
+    let last = s.len() - 8;
+    let mut p = at;
+    // Kept: over `chunks_exact(8)` it takes up to 1.28 of the instructions, over `step_by(8)` up to 1.36.
+    while p <= last {
+        let m = class.marks(s, p);
+        if m != 0 {
+            return p + word::low_mark(m);
+        }
+        p += 8;
+    }
+    by_bytes(s, p, class)
 }
 
 // 0 if none of the 32 bytes from `p` on is a quote or a backslash. Each is counted by itself, so that 16 bytes are compared at once.
+// Kept: by `any` over the 32 bytes a run stops at the first, and bytes are compared one by one: up to 2.06 of the instructions.
 fn quote_in_32(s: &[u8], p: usize) -> u8
     requires { p + 32 ≤ length s.now }
     ensures { result ≡ 0 → first_from is_quote s.now (p + 32) ≡ first_from is_quote s.now p }
 {
     let mut quotes: u8 = 0;
     let mut backslashes: u8 = 0;
-    let mut i: usize = 0;
-    while i < 32 {
+    for i in 0..32 {
         let b = s[p + i];
-        quotes = quotes | (b == 34) as u8;
-        backslashes = backslashes | (b == 92) as u8;
-        i += 1;
+        quotes |= u8::from(b == b'"');
+        backslashes |= u8::from(b == b'\\');
     }
     quotes | backslashes
 }
@@ -39,6 +149,7 @@ fn past_unquoted(s: &[u8], at: usize) -> usize
     }
     let last = s.len() - 32;
     let mut p = at;
+    // Kept: over `chunks_exact(32)` it takes 1.05 to 1.11 of the instructions.
     while p <= last {
         if quote_in_32(s, p) != 0 {
             return p;
@@ -48,77 +159,11 @@ fn past_unquoted(s: &[u8], at: usize) -> usize
     p
 }
 
-// As `find_quote`, byte by byte.
-fn quote_bytes(s: &[u8], at: usize) -> usize
-    ensures { result ≡ first_from is_quote s.now at }
-{
-    let mut p = at;
-    while p < s.len() {
-        if is_quote(s[p]) {
-            return p;
-        }
-        p += 1;
-    }
-    p
-}
-
-// As `find_quote`, by words of eight bytes.
-fn quote_words(s: &[u8], at: usize) -> usize
-    ensures { result ≡ first_from is_quote s.now at }
-{
-    if s.len() < 8 {
-        return quote_bytes(s, at);
-    }
-    let last = s.len() - 8;
-    let mut p = at;
-    while p <= last {
-        let m = marks::quote_marks(s, p);
-        if m != 0 {
-            return p + word::low_mark(m);
-        }
-        p += 8;
-    }
-    quote_bytes(s, p)
-}
-
 // The first place from `at` on with a quote or a backslash, or the end; `at` itself where it lies beyond the slice.
 pub fn find_quote(s: &[u8], at: usize) -> usize
     ensures { result ≡ first_from is_quote s.now at }
 {
-    quote_words(s, past_unquoted(s, at))
-}
-
-// As `find_byte`, byte by byte.
-fn byte_bytes(s: &[u8], at: usize, b: u8) -> usize
-    ensures { result ≡ first_from (is_byte b) s.now at }
-{
-    let mut p = at;
-    while p < s.len() {
-        if s[p] == b {
-            return p;
-        }
-        p += 1;
-    }
-    p
-}
-
-// As `find_byte`, by words of eight bytes.
-fn byte_words(s: &[u8], at: usize, b: u8) -> usize
-    ensures { result ≡ first_from (is_byte b) s.now at }
-{
-    if s.len() < 8 {
-        return byte_bytes(s, at, b);
-    }
-    let last = s.len() - 8;
-    let mut p = at;
-    while p <= last {
-        let m = marks::byte_marks(s, p, b);
-        if m != 0 {
-            return p + word::low_mark(m);
-        }
-        p += 8;
-    }
-    byte_bytes(s, p, b)
+    by_words(s, past_unquoted(s, at), Quote)
 }
 
 // 0 if none of the 32 bytes from `p` on is `b`.
@@ -126,13 +171,11 @@ fn byte_in_32(s: &[u8], p: usize, b: u8) -> u8
     requires { p + 32 ≤ length s.now }
     ensures { result ≡ 0 → first_from (is_byte b) s.now (p + 32) ≡ first_from (is_byte b) s.now p }
 {
-    let mut h: u8 = 0;
-    let mut i: usize = 0;
-    while i < 32 {
-        h = h | (s[p + i] == b) as u8;
-        i += 1;
+    let mut found: u8 = 0;
+    for i in 0..32 {
+        found |= u8::from(s[p + i] == b);
     }
-    h
+    found
 }
 
 // How many of the eight bytes from `p` on stand before the first that is `b`.
@@ -175,10 +218,11 @@ pub fn find_byte(s: &[u8], at: usize, b: u8) -> usize
     ensures { result ≡ first_from (is_byte b) s.now at }
 {
     if s.len() < 32 {
-        return byte_words(s, at, b);
+        return by_words(s, at, Byte { byte: b });
     }
     let last = s.len() - 32;
     let mut place = at;
+    // Kept: over `chunks_exact(32)` it takes 1.16 to 2.6 of the instructions.
     while place <= last {
         let n = before_in_32(s, place, b);
         if n < 32 {
@@ -186,76 +230,21 @@ pub fn find_byte(s: &[u8], at: usize, b: u8) -> usize
         }
         place += 32;
     }
-    byte_words(s, place, b)
-}
-
-// Whether a byte is no digit.
-fn is_other(b: u8) -> bool
-    ensures { result ≡ is_other b }
-{
-    !((48 <= b) & (b <= 57))
-}
-
-// As `find_other`, byte by byte.
-fn other_bytes(s: &[u8], at: usize) -> usize
-    ensures { result ≡ first_from is_other s.now at }
-{
-    let mut p = at;
-    while p < s.len() {
-        if is_other(s[p]) {
-            return p;
-        }
-        p += 1;
-    }
-    p
+    by_words(s, place, Byte { byte: b })
 }
 
 // The first place from `at` on with no digit, or the end; `at` itself where it lies beyond the slice.
 pub fn find_other(s: &[u8], at: usize) -> usize
     ensures { result ≡ first_from is_other s.now at }
 {
-    if s.len() < 8 {
-        return other_bytes(s, at);
-    }
-    let last = s.len() - 8;
-    let mut p = at;
-    while p <= last {
-        let m = marks::other_marks(s, p);
-        if m != 0 {
-            return p + word::low_mark(m);
-        }
-        p += 8;
-    }
-    other_bytes(s, p)
+    by_words(s, at, Other)
 }
 
 // Whether an unquoted string runs over a byte that is no letter.
 fn is_joint(b: u8) -> bool
     ensures { result ≡ is_joint b }
 {
-    ((48 <= b) & (b <= 57)) | ((b == 95) | ((b == 45) | (b == 46)))
-}
-
-// Whether no unquoted string runs over a byte.
-fn is_edge(b: u8) -> bool
-    ensures { result ≡ is_edge b }
-{
-    let letter = ((65 <= b) & (b <= 90)) | ((97 <= b) & (b <= 122));
-    !(letter | is_joint(b))
-}
-
-// As `find_edge`, byte by byte.
-fn edge_bytes(s: &[u8], at: usize) -> usize
-    ensures { result ≡ first_from is_edge s.now at }
-{
-    let mut p = at;
-    while p < s.len() {
-        if is_edge(s[p]) {
-            return p;
-        }
-        p += 1;
-    }
-    p
+    ((b'0' <= b) & (b <= b'9')) | ((b == b'_') | ((b == b'-') | (b == b'.')))
 }
 
 // The first place from `at` on with no letter, digit, `_`, `-` or `.`, or the end; `at` itself where it lies beyond the slice. Letters are
@@ -264,10 +253,11 @@ pub fn find_edge(s: &[u8], at: usize) -> usize
     ensures { result ≡ first_from is_edge s.now at }
 {
     if s.len() < 8 {
-        return edge_bytes(s, at);
+        return by_bytes(s, at, Edge);
     }
     let last = s.len() - 8;
     let mut p = at;
+    // Kept: a step is a word or the place behind a joint, so no iterator gives the places.
     while p <= last {
         let m = marks::letter_marks(s, p);
         if m == 0 {
@@ -280,5 +270,5 @@ pub fn find_edge(s: &[u8], at: usize) -> usize
             p = q + 1;
         }
     }
-    edge_bytes(s, p)
+    by_bytes(s, p, Edge)
 }

@@ -12,7 +12,7 @@ use Rattle.number.specs.Number.{number_at, uint64_text, double_text, int64_text}
 use Rattle.number.proofs.Ends.{starts_at, starts_out}
 use Rattle.number.proofs.Tokens.{beyond, ended, text_part, text_uint, text_double, text_int}
 use Rattle.number.specs.Places.{Leaves}
-use Rattle.number.proofs.number_token.Goals.{then-end-input+else-input-end-eq117, else-end-input}
+use Rattle.number.proofs.number_token.Goals.{in_default-via-in-Some+in_default, in_default-via-in_default}
 use Rattle.number.proofs.number_token.Goals as goal
 
 -- behind the test for a point: the part is the text, which ends at `end`, and no `u` stands behind it
@@ -38,8 +38,8 @@ returns-then-input-at c = beyond _ _ (omega arith)
 pub returns-then-input-at-2 : goal.returns-then-input-at-2
 returns-then-input-at-2 c = ended _ _ c.if-input-at-2.true
 
-pub returns-then-input-end-eq117 : goal.returns-then-input-end-eq117
-returns-then-input-end-eq117 c =
+pub returns-in-Some-eq117 : goal.returns-in-Some-eq117
+returns-in-Some-eq117 c =
     let s = c.args.input.now in
     let at = c.args.at in
     let e = c.text_end-end.result in
@@ -47,22 +47,37 @@ returns-then-input-end-eq117 c =
     let low : at ≤ e = c.text_end-end.ensures.low in
     let high : e ≤ length s = omega (arith, c.text_end-end.ensures.high) in
     let r = c.text_end-end.ensures.rest in
+    let y = c.in-Some-eq117.ensures.lookup.3 in
     c.uint_token.ensures
     ∙ ap (uint64_text at (e + 1)) (text_part s at h e low high r)
-    ∙ text_uint s at h e low high r (starts_at s e (omega arith) is_unsigned ∙ eq-eqb _ _ c.if-input-end-eq117.true)
+    ∙ text_uint s at h e low high r (starts_at s e y.0 is_unsigned ∙ eq-eqb _ _ (sym (y.1 0) ∙ c.in-Some-eq117.field-0-test))
 
-pub returns-then-has_point : goal.returns-then-has_point
-returns-then-has_point c =
+pub returns-in_default : goal.returns-in_default
+returns-in_default c =
     let s = c.args.input.now in
     let end = c.text_end-end.result in
     let bare : starts is_unsigned (drop end s) ≡ false =
-    elim c.if-end-input.branch [ then-end-input+else-input-end-eq117 w ↦ starts_at s end w.if-end-input.true is_unsigned ∙ ne_eqb _ _ w.if-input-end-eq117.false | else-end-input w ↦ starts_out s end w.if-end-input.false is_unsigned ] in
-    c.double_token.ensures ∙ is_double_lem s c.args.at end (omega arith) c.text_end-end.ensures bare (sym c.has_point.ensures ∙ c.if-has_point.true)
+    elim c.in_default.branch [
+      | in_default-via-in-Some+in_default w ↦
+          let y = (rw w.in_default.is at c.get.ensures.lookup).3 in
+          let h = w.in_default.field-0-test in
+          let k = w.in_default.field-0-is in
+          starts_at s end y.0 is_unsigned ∙ ne_eqb _ _ (λ z. h.1 (cc (y.1 0)))
+      | in_default-via-in_default w ↦ starts_out s end (rw w.in_default.is at c.get.ensures.lookup).3 is_unsigned
+    ] in
+    c.double_token.ensures ∙ is_double_lem s c.args.at end (omega arith) c.text_end-end.ensures bare (sym c.if-has_point.ensures)
 
-pub returns : goal.returns
-returns c =
+pub returns-in_default-2 : goal.returns-in_default-2
+returns-in_default-2 c =
     let s = c.args.input.now in
     let end = c.text_end-end.result in
     let bare : starts is_unsigned (drop end s) ≡ false =
-    elim c.if-end-input.branch [ then-end-input+else-input-end-eq117 w ↦ starts_at s end w.if-end-input.true is_unsigned ∙ ne_eqb _ _ w.if-input-end-eq117.false | else-end-input w ↦ starts_out s end w.if-end-input.false is_unsigned ] in
-    c.int_token.ensures ∙ is_int s c.args.at end (omega arith) c.text_end-end.ensures bare (sym c.has_point.ensures ∙ c.if-has_point.false)
+    elim c.in_default.branch [
+      | in_default-via-in-Some+in_default w ↦
+          let y = (rw w.in_default.is at c.get.ensures.lookup).3 in
+          let h = w.in_default.field-0-test in
+          let k = w.in_default.field-0-is in
+          starts_at s end y.0 is_unsigned ∙ ne_eqb _ _ (λ z. h.1 (cc (y.1 0)))
+      | in_default-via-in_default w ↦ starts_out s end (rw w.in_default.is at c.get.ensures.lookup).3 is_unsigned
+    ] in
+    c.int_token.ensures ∙ is_int s c.args.at end (omega arith) c.text_end-end.ensures bare (sym c.if-has_point.ensures)

@@ -2,30 +2,40 @@
 -- Assumes nothing.
 use mathlib.Core.Path.{sym, ◌∙◌}
 use native.Mathlib.Omega.{arith}
-use Rattle.number.proofs.Classes.{digit_from}
+use Rattle.std.proofs.lemmas.Bool.Decides.{nat_tests}
+use Rattle.number.proofs.Classes.{digit_is}
 use Rattle.number.proofs.Values.{decimal_none, decimal_start, decimal_out, decimal_bad, decimal_more, decimal_over}
 use Rattle.number.proofs.read_decimal.Goals as goal
 
-pub returns-then-t-at : goal.returns-then-t-at
-returns-then-t-at c = (decimal_none c.args.t.now c.args.limit c.args.at (omega arith), tt)
+pub returns-then-is_empty : goal.returns-then-is_empty
+returns-then-is_empty c = decimal_none c.args.digits.now _ 0 (grind (arith, nat_tests))
 
-pub loop-i-init : goal.loop-i-init
-loop-i-init c = (omega arith, decimal_start c.args.t.now c.args.limit c.args.at (omega arith))
+pub loop-b-init : goal.loop-b-init
+loop-b-init c = record { fits = omega arith; agrees = decimal_start c.args.digits.now _ 0 (grind (arith, nat_tests)) }
 
-pub returns-then-not-is_digit : goal.returns-then-not-is_digit
-returns-then-not-is_digit c = (decimal_bad c.args.t.now c.args.limit c.loop-i.i c.loop-i.v (omega arith) (sym c.is_digit.ensures ∙ c.if-not-is_digit.true) ∙ c.loop-i.invariant.1, tt)
+pub returns-then-not-is_ascii_digit : goal.returns-then-not-is_ascii_digit
+returns-then-not-is_ascii_digit c =
+    decimal_bad c.args.digits.now _ _ _ (omega arith) (sym (c.if-not-is_ascii_digit.ensures.value ∙ digit_is _)) ∙ c.loop-b.invariant.agrees
 
-pub overflow_sub-d : goal.overflow_sub-d
-overflow_sub-d c = omega (arith, digit_from _ (sym c.is_digit.ensures ∙ c.if-not-is_digit.false))
+pub returns-in_err-checked_mul : goal.returns-in_err-checked_mul
+returns-in_err-checked_mul c =
+    c.from_residual.ensures
+    ∙ decimal_over c.args.digits.now _ _ _ (omega arith) (sym (c.if-not-is_ascii_digit.ensures.value ∙ digit_is _)) (omega (arith, c.in_err-checked_mul.ensures))
+    ∙ c.loop-b.invariant.agrees
 
-pub returns-then-limit-v : goal.returns-then-limit-v
-returns-then-limit-v c = (decimal_over c.args.t.now c.args.limit c.loop-i.i c.loop-i.v (omega arith) (sym c.is_digit.ensures ∙ c.if-not-is_digit.false) (omega arith) ∙ c.loop-i.invariant.1, tt)
+pub returns-in_err-value : goal.returns-in_err-value
+returns-in_err-value c =
+    c.from_residual-in_err-value.ensures
+    ∙ decimal_over c.args.digits.now _ _ _ (omega arith) (sym (c.if-not-is_ascii_digit.ensures.value ∙ digit_is _)) (omega (arith, c.in_err-value.ensures, c.in_ok-checked_mul.ensures.1, c.from.ensures))
+    ∙ c.loop-b.invariant.agrees
 
-pub returns-then-limit-w : goal.returns-then-limit-w
-returns-then-limit-w c = (decimal_over c.args.t.now c.args.limit c.loop-i.i c.loop-i.v (omega arith) (sym c.is_digit.ensures ∙ c.if-not-is_digit.false) (omega arith) ∙ c.loop-i.invariant.1, tt)
-
-pub loop-i-preserved : goal.loop-i-preserved
-loop-i-preserved c = (omega arith, decimal_more c.args.t.now c.args.limit c.loop-i.i c.loop-i.v (omega arith) (sym c.is_digit.ensures ∙ c.if-not-is_digit.false) ∙ c.loop-i.invariant.1)
+pub loop-b-preserved : goal.loop-b-preserved
+loop-b-preserved c =
+    let digit = sym (c.if-not-is_ascii_digit.ensures.value ∙ digit_is _) in
+    record {
+      fits = omega (arith, c.in_ok-value.ensures);
+      agrees = rw (c.in_ok-value.ensures.1, c.in_ok-checked_mul.ensures.1, c.from.ensures) (decimal_more c.args.digits.now _ _ _ (omega arith) digit ∙ c.loop-b.invariant.agrees);
+    }
 
 pub returns : goal.returns
-returns c = (decimal_out c.args.t.now c.args.limit c.loop-i.i c.loop-i.v (omega arith) (omega arith) ∙ c.loop-i.invariant.1, omega arith)
+returns c = decimal_out c.args.digits.now _ _ _ (omega arith) (omega (arith, c.loop-b.invariant.fits)) ∙ c.loop-b.invariant.agrees

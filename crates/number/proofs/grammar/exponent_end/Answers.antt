@@ -1,19 +1,26 @@
 -- `exponent_end` meets its contract. Assumes nothing.
-use mathlib.Core.Path.{sym, ◌∙◌}
+use mathlib.Core.Path.{sym, ap, ◌∙◌}
 use native.Mathlib.Omega.{arith}
-use Rattle.number.proofs.Ends.{exponent_out, exponent_not, exponent_some, exponent_none}
-use Rattle.number.proofs.grammar.exponent_end.Goals.{else-at-s-via-then-at-s+else-is_exponent, else-at-s-via-else-at-s}
+use borrow.Author.Tests.{ltb-true, ltb-false}
+use Rattle.number.specs.Bytes.{is_exponent}
+use Rattle.number.proofs.Ends.{tested, exponent_out, exponent_not, exponent_some, exponent_none}
 use Rattle.number.proofs.grammar.exponent_end.Goals as goal
 
-pub returns-then-b-a : goal.returns-then-b-a
-returns-then-b-a c = record { rest = exponent_none c.args.s.now c.args.at (omega arith) (sym c.is_exponent.ensures ∙ c.if-is_exponent.true) c.sign_end-a.result c.digits_end-b.result c.sign_end-a.ensures c.digits_end-b.ensures (omega arith); high = tt }
+pub returns-in-Some : goal.returns-in-Some
+returns-in-Some c =
+    let z = c.in-Some.ensures.lookup.3 in
+    let e = ap is_exponent (sym (z.1 0)) ∙ sym c.if-is_exponent.ensures in
+    let a = c.sign_end-a.ensures in
+    let b = c.digits_end-b.ensures in
+    rw c.then_some.ensures
+    (tested _ _ _ _ _ (λ q. exponent_some _ _ z.0 e _ _ a b (ltb-true _ _ q)) (λ q. exponent_none _ _ z.0 e _ _ a b (ltb-false _ _ q)) (omega (arith, z.0, a.low, a.high, b.high)))
 
-pub returns-then-is_exponent : goal.returns-then-is_exponent
-returns-then-is_exponent c = record { rest = exponent_some c.args.s.now c.args.at (omega arith) (sym c.is_exponent.ensures ∙ c.if-is_exponent.true) c.sign_end-a.result c.digits_end-b.result c.sign_end-a.ensures c.digits_end-b.ensures (omega (arith, c.digits_end-b.ensures.low)); high = omega (arith, c.digits_end-b.ensures.high, c.sign_end-a.ensures.high, c.sign_end-a.ensures.low) }
+pub returns-in_default : goal.returns-in_default
+returns-in_default c =
+    let z = c.in-Some.ensures.lookup.3 in
+    record { rest = exponent_not _ _ z.0 (rw (← z.1 0) (sym c.if-is_exponent.ensures)); high = omega arith }
 
-pub returns : goal.returns
-returns c =
-    record {
-      rest = elim c.else-at-s.branch [ else-at-s-via-then-at-s+else-is_exponent w ↦ exponent_not c.args.s.now c.args.at (omega (arith, w.if-at-s.true)) (sym w.is_exponent.ensures ∙ w.if-is_exponent.false) | else-at-s-via-else-at-s w ↦ exponent_out c.args.s.now c.args.at (omega (arith, w.if-at-s.false)) ];
-      high = omega arith;
-    }
+pub returns-in_default-2 : goal.returns-in_default-2
+returns-in_default-2 c =
+    let y = rw c.in_default.is at c.get.ensures.lookup in
+    record { rest = exponent_out _ _ y.3; high = omega arith }

@@ -1,15 +1,13 @@
--- `has_point` meets its contract: from the place reached on there is a point as from the start. Assumes nothing.
-use mathlib.Core.Path.{sym, ◌∙◌}
-use native.Mathlib.Omega.{arith}
+-- `has_point` meets its contract. Assumes nothing.
+use mathlib.Core.Path.{◌∙◌}
+use Rattle.std.proofs.Common.{rules, tests}
+use Rattle.std.proofs.lemmas.Iterator.{YieldsList-from_slice}
+use Rattle.std.proofs.lemmas.Iterator.Search.{any_from_yields_List}
 use Rattle.number.specs.Bytes.{is_pointed}
-use Rattle.number.proofs.Ends.{any_out, any_here, any_more}
+use Rattle.number.proofs.Runs.{any_is}
 use Rattle.number.proofs.grammar.has_point.Goals as goal
 
-pub returns-then-is_pointed : goal.returns-then-is_pointed
-returns-then-is_pointed c = any_here is_pointed c.args.t.now c.loop-b.b-index (omega arith) (sym c.is_pointed.ensures ∙ c.if-is_pointed.true) ∙ c.loop-b.invariant
-
-pub loop-b-preserved : goal.loop-b-preserved
-loop-b-preserved c = any_more is_pointed c.args.t.now c.loop-b.b-index (omega arith) (sym c.is_pointed.ensures ∙ c.if-is_pointed.false) ∙ c.loop-b.invariant
-
 pub returns : goal.returns
-returns c = any_out is_pointed c.args.t.now c.loop-b.b-index (omega arith) ∙ c.loop-b.invariant
+returns c =
+    any_from_yields_List is_pointed _ _ _ c.any.ensures.ran (YieldsList-from_slice _ c.iter.ensures.rest) (λ x b q k. search (rules, tests))
+    ∙ any_is is_pointed c.args.t.now

@@ -1,34 +1,35 @@
 -- `mantissa_end` meets its contract. Assumes nothing.
-use mathlib.Core.Path.{◌≡◌, ◌∙◌}
+use mathlib.Core.Path.{◌≡◌, sym, ◌∙◌}
 use mathlib.Core.Bool.{false}
 use native.Mathlib.Omega.{arith}
-use borrow.Author.Tests.{eq-eqb, ne_eqb}
+use borrow.Author.Tests.{eq-eqb, ne_eqb, ltb-true, ltb-false}
 use lib.ListN.{drop}
+use Rattle.std.proofs.lemmas.Bool.Decides.{nat_tests}
 use Rattle.number.specs.Bytes.{is_point, starts}
-use Rattle.number.proofs.Ends.{starts_at, starts_out, plain_some, plain_none, pointed_some, pointed_none}
-use Rattle.number.proofs.grammar.mantissa_end.Goals.{else-b-s-via-then-b-s+else-s-b-eq46, else-b-s-via-else-b-s}
+use Rattle.number.proofs.Ends.{starts_at, starts_out, tested, plain_some, plain_none, pointed_some, pointed_none}
+use Rattle.number.proofs.grammar.mantissa_end.Goals.{in_default-via-in-Some+in_default, in_default-via-in_default}
 use Rattle.number.proofs.grammar.mantissa_end.Goals as goal
 
-pub returns-then-d-a : goal.returns-then-d-a
-returns-then-d-a c = record { rest = pointed_none c.args.s.now c.args.a c.args.b c.requires (omega arith) (eq-eqb _ _ c.if-s-b-eq46.true) _ c.digits_end-d.ensures (omega arith); high = tt }
+pub returns-in-Some-eq46 : goal.returns-in-Some-eq46
+returns-in-Some-eq46 c =
+    let y = c.in-Some-eq46.ensures.lookup.3 in
+    let e = eq-eqb _ _ (sym (y.1 0) ∙ c.in-Some-eq46.field-0-test) in
+    let d = c.digits_end-d.ensures in
+    rw c.then_some.ensures
+    (tested _ _ _ _ _ (λ q. pointed_some _ _ _ c.requires y.0 e _ d (grind (arith, nat_tests))) (λ q. pointed_none _ _ _ c.requires y.0 e _ d (grind (arith, nat_tests))) (omega (arith, y.0, d.high, c.requires.low)))
 
-pub returns-then-s-b-eq46 : goal.returns-then-s-b-eq46
-returns-then-s-b-eq46 c =
-    record {
-      rest = pointed_some c.args.s.now c.args.a c.args.b c.requires (omega arith) (eq-eqb _ _ c.if-s-b-eq46.true) _ c.digits_end-d.ensures c.if-d-a.false;
-      high = omega (arith, c.digits_end-d.ensures.high, c.requires.low);
-    }
-
-pub returns-then-a-b : goal.returns-then-a-b
-returns-then-a-b c =
+pub returns-in_default : goal.returns-in_default
+returns-in_default c =
     let s = c.args.s.now in
     let b = c.args.b in
-    let n : starts is_point (drop b s) ≡ false = elim c.else-b-s.branch [ else-b-s-via-then-b-s+else-s-b-eq46 w ↦ starts_at s b w.if-b-s.true is_point ∙ ne_eqb _ _ w.if-s-b-eq46.false | else-b-s-via-else-b-s w ↦ starts_out s b w.if-b-s.false is_point ] in
-    record { rest = plain_some c.args.s.now c.args.a c.args.b c.requires n (omega arith); high = omega (arith, c.requires.high) }
-
-pub returns : goal.returns
-returns c =
-    let s = c.args.s.now in
-    let b = c.args.b in
-    let n : starts is_point (drop b s) ≡ false = elim c.else-b-s.branch [ else-b-s-via-then-b-s+else-s-b-eq46 w ↦ starts_at s b w.if-b-s.true is_point ∙ ne_eqb _ _ w.if-s-b-eq46.false | else-b-s-via-else-b-s w ↦ starts_out s b w.if-b-s.false is_point ] in
-    record { rest = plain_none c.args.s.now c.args.a c.args.b c.requires n (omega arith); high = tt }
+    let n : starts is_point (drop b s) ≡ false =
+    elim c.in_default.branch [
+      | in_default-via-in-Some+in_default w ↦
+          let y = (rw w.in_default.is at c.get.ensures.lookup).3 in
+          let h = w.in_default.field-0-test in
+          let k = w.in_default.field-0-is in
+          starts_at s b y.0 is_point ∙ ne_eqb _ _ (λ z. h.1 (cc (y.1 0)))
+      | in_default-via-in_default w ↦ starts_out s b (rw w.in_default.is at c.get.ensures.lookup).3 is_point
+    ] in
+    rw c.then_some-in_default.ensures
+    (tested _ _ _ _ _ (λ q. plain_some _ _ _ c.requires n (ltb-true _ _ q)) (λ q. plain_none _ _ _ c.requires n (ltb-false _ _ q)) c.requires.high)

@@ -1,20 +1,14 @@
--- `text_end` meets its contract: what the run leaves from the place reached is what it leaves from the start. Assumes nothing.
-use mathlib.Core.Path.{◌≡◌, sym, ap, ◌∙◌}
-use Prim.Native.Nat.{ℕ}
-use lib.ListN.{drop}
-use native.Mathlib.Omega.{arith}
+-- `text_end` meets its contract. Assumes nothing.
+use mathlib.Core.Bool.{not}
+use Rattle.std.proofs.Common.{rules, tests}
+use Rattle.std.proofs.lemmas.Iterator.{YieldsList-from_slice}
+use Rattle.std.proofs.lemmas.Iterator.Search.{position_from_yields_List}
 use Rattle.number.specs.Bytes.{is_text}
-use Rattle.number.proofs.Ends.{run_out, run_stop, run_more}
+use Rattle.number.proofs.Runs.{position_past}
 use Rattle.number.proofs.grammar.text_end.Goals as goal
-
-pub returns-then-not-is_text : goal.returns-then-not-is_text
-returns-then-not-is_text c = record { rest = run_stop is_text c.args.s.now c.loop-p.p (omega arith) (sym c.is_text.ensures ∙ c.if-not-is_text.true) ∙ c.loop-p.invariant.1; low = omega arith; high = omega arith }
-
-pub loop-p-preserved : goal.loop-p-preserved
-loop-p-preserved c = (omega arith, run_more is_text c.args.s.now c.loop-p.p (omega arith) (sym c.is_text.ensures ∙ c.if-not-is_text.false) ∙ c.loop-p.invariant.1)
 
 pub returns : goal.returns
 returns c =
-    let s = c.args.s.now in
-    let e : c.max.result ≡ c.loop-p.p = omega (arith, c.max.ensures) in
-    record { rest = ap (λ (n : ℕ). drop n s) e ∙ run_out is_text s c.loop-p.p (omega arith) ∙ c.loop-p.invariant.1; low = omega (arith, e); high = omega (arith, e) }
+    position_past is_text c.args.s.now c.args.at c.unwrap_or.result c.position.result c.requires
+    (position_from_yields_List (λ b. not (is_text b)) _ _ _ c.position.ensures.ran (YieldsList-from_slice _ c.iter.ensures.rest) (λ x b q k. search (rules, tests)))
+    c.unwrap_or.ensures

@@ -1,7 +1,7 @@
--- `is_other` meets its contract.
+-- `holds` meets its contract.
 use mathlib.Core.Path.{refl}
 use Rattle.marks.specs.Classes.{is_other}
-use Rattle.search.proofs.is_other.Goals as goal
+use Rattle.search.proofs.OtherClass.holds.Goals as goal
 
 pub returns : goal.returns
 unfolding is_other

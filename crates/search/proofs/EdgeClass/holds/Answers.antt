@@ -1,9 +1,9 @@
--- `is_edge` meets its contract.
+-- `holds` meets its contract.
 use mathlib.Core.Path.{ap}
 use mathlib.Core.Bool.{Bool, not, ◌&&◌, ◌||◌}
 use lib.Dec.{leb}
 use Rattle.search.specs.First.{is_edge}
-use Rattle.search.proofs.is_edge.Goals as goal
+use Rattle.search.proofs.EdgeClass.holds.Goals as goal
 
 pub returns : goal.returns
 unfolding is_edge

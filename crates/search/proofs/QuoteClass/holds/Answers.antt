@@ -1,7 +1,7 @@
--- `is_quote` meets its contract.
+-- `holds` meets its contract.
 use mathlib.Core.Path.{refl}
 use Rattle.marks.specs.Classes.{is_quote}
-use Rattle.search.proofs.is_quote.Goals as goal
+use Rattle.search.proofs.QuoteClass.holds.Goals as goal
 
 pub returns : goal.returns
 unfolding is_quote
