@@ -26,35 +26,35 @@ pairs_at {f} {s} {p} a {r} e = subst (λ (n : ℕ). Pairs f s p n a r) e
 pub scan_begun-returns-then-input-p : goal.scan_begun-returns-then-input-p
 scan_begun-returns-then-input-p t c = ended _ _ _ (λ K. K) (due_of c.args.passed) c.if-input-p.true
 
-pub scan_begun-returns-in_default : goal.scan_begun-returns-in_default
-scan_begun-returns-in_default t c = too _ _ _ c.requires _ list_opens list (due_of c.args.passed) item c.if-input-p.false c.if-b-eq91.true (opens_list c.args.passed) (c.in_default.ensures.full refl)
+pub scan_begun-returns-then-is_full : goal.scan_begun-returns-then-is_full
+scan_begun-returns-then-is_full t c = too _ _ _ c.requires _ list_opens list (due_of c.args.passed) item c.if-input-p.false c.if-b-eq91.true (opens_list c.args.passed) (c.is_full.ensures.0 c.if-is_full.true)
 
 pub scan_begun-returns-then-b-eq91 : goal.scan_begun-returns-then-b-eq91
-scan_begun-returns-then-b-eq91 t c = let d = c.in-Some.ensures.inner in begun_in _ _ _ c.requires _ c.args.passed list list_closed (into _ _ _ c.requires _ list_opens list (due_of c.args.passed) item c.if-input-p.false c.if-b-eq91.true (opens_list c.args.passed) (omega (arith, d.1)) (λ e. omega (arith, d.1)) (items_at (omega (arith, d.0)) c.scan_list.ensures))
+scan_begun-returns-then-b-eq91 t c = let d = c.is_full.ensures.1 c.if-is_full.false in begun_in _ _ _ c.requires _ c.args.passed list list_closed (into _ _ _ c.requires _ list_opens list (due_of c.args.passed) item c.if-input-p.false c.if-b-eq91.true (opens_list c.args.passed) (omega (arith, d)) (λ e. omega (arith, d)) (items_at (omega arith) c.scan_list.ensures))
 
 pub scan_begun-returns-then-second_attributes : goal.scan_begun-returns-then-second_attributes
 scan_begun-returns-then-second_attributes t c = let g = c.second_attributes.ensures.0 c.if-second_attributes.true in mark_wrong _ _ _ c.requires attributes_open c.if-input-p.false g.0 not_value (λ K. K) (due_of c.args.passed) (omega arith) (attributes_passed _ g.1) c.stop_at.ensures
 
-pub scan_begun-returns-in_default-deeper : goal.scan_begun-returns-in_default-deeper
-scan_begun-returns-in_default-deeper t c = pairs_too _ _ _ c.requires _ c.args.passed c.if-input-p.false (c.opens_pairs.ensures.0 c.if-opens_pairs.true) (c.second_attributes.ensures.1 c.if-second_attributes.false) (c.in_default-deeper.ensures.full refl)
+pub scan_begun-returns-then-is_full-2 : goal.scan_begun-returns-then-is_full-2
+scan_begun-returns-then-is_full-2 t c = pairs_too _ _ _ c.requires _ c.args.passed c.if-input-p.false (c.opens_pairs.ensures.0 c.if-opens_pairs.true) (c.second_attributes.ensures.1 c.if-second_attributes.false) (c.is_full-then-opens_pairs.ensures.0 c.if-is_full-2.true)
 
 pub scan_begun-returns-in_err-end : goal.scan_begun-returns-in_err-end
-scan_begun-returns-in_err-end t c = let d = c.in-Some-deeper.ensures.inner in none_at _ c.from_residual.ensures (pairs_stop _ _ _ c.requires _ c.args.passed c.if-input-p.false (c.opens_pairs.ensures.0 c.if-opens_pairs.true) (c.second_attributes.ensures.1 c.if-second_attributes.false) (omega (arith, d.1)) (λ e. omega (arith, d.1)) _ _ c.opens_attributes-attributes.ensures.0 c.opens_attributes-attributes.ensures.1 (pairs_at _ (omega (arith, d.0)) c.in_err-end.ensures))
+scan_begun-returns-in_err-end t c = let d = c.is_full-then-opens_pairs.ensures.1 c.if-is_full-2.false in none_at _ c.from_residual.ensures (pairs_stop _ _ _ c.requires _ c.args.passed c.if-input-p.false (c.opens_pairs.ensures.0 c.if-opens_pairs.true) (c.second_attributes.ensures.1 c.if-second_attributes.false) (omega (arith, d)) (λ e. omega (arith, d)) _ _ c.opens_attributes-attributes.ensures.0 c.opens_attributes-attributes.ensures.1 (pairs_at _ (omega arith) c.in_err-end.ensures))
 
 pub scan_begun-scan_attributed-requires : goal.scan_begun-scan_attributed-requires
 scan_begun-scan_attributed-requires t c = (let g = goes_on c.in_ok-end.ensures in omega (arith, g.1, g.2, skip_on _ _ _ _ c.skip-o.ensures), skip_here _ _ _ _ c.skip-o.ensures)
 
 pub scan_begun-returns-then-attributes : goal.scan_begun-returns-then-attributes
-scan_begun-returns-then-attributes t c = let d = c.in-Some-deeper.ensures.inner in pairs_then _ _ _ c.requires _ c.args.passed c.if-input-p.false (c.opens_pairs.ensures.0 c.if-opens_pairs.true) (c.second_attributes.ensures.1 c.if-second_attributes.false) (omega (arith, d.1)) (λ e. omega (arith, d.1)) _ _ _ c.if-attributes.true c.opens_attributes-attributes.ensures.0 (pairs_at _ (omega (arith, d.0)) c.in_ok-end.ensures) c.skip-o.ensures c.scan_attributed.ensures
+scan_begun-returns-then-attributes t c = let d = c.is_full-then-opens_pairs.ensures.1 c.if-is_full-2.false in pairs_then _ _ _ c.requires _ c.args.passed c.if-input-p.false (c.opens_pairs.ensures.0 c.if-opens_pairs.true) (c.second_attributes.ensures.1 c.if-second_attributes.false) (omega (arith, d)) (λ e. omega (arith, d)) _ _ _ c.if-attributes.true c.opens_attributes-attributes.ensures.0 (pairs_at _ (omega arith) c.in_ok-end.ensures) c.skip-o.ensures c.scan_attributed.ensures
 
 pub scan_begun-returns-then-opens_pairs : goal.scan_begun-returns-then-opens_pairs
-scan_begun-returns-then-opens_pairs t c = let d = c.in-Some-deeper.ensures.inner in pairs_whole _ _ _ c.requires _ c.args.passed c.if-input-p.false (c.opens_pairs.ensures.0 c.if-opens_pairs.true) (c.second_attributes.ensures.1 c.if-second_attributes.false) (omega (arith, d.1)) (λ e. omega (arith, d.1)) _ c.if-attributes.false c.opens_attributes-attributes.ensures.1 (pairs_at _ (omega (arith, d.0)) c.in_ok-end.ensures)
+scan_begun-returns-then-opens_pairs t c = let d = c.is_full-then-opens_pairs.ensures.1 c.if-is_full-2.false in pairs_whole _ _ _ c.requires _ c.args.passed c.if-input-p.false (c.opens_pairs.ensures.0 c.if-opens_pairs.true) (c.second_attributes.ensures.1 c.if-second_attributes.false) (omega (arith, d)) (λ e. omega (arith, d)) _ c.if-attributes.false c.opens_attributes-attributes.ensures.1 (pairs_at _ (omega arith) c.in_ok-end.ensures)
 
-pub scan_begun-returns-in_default-scalar_end : goal.scan_begun-returns-in_default-scalar_end
-scan_begun-returns-in_default-scalar_end t c = let g = c.opens_pairs.ensures.1 c.if-opens_pairs.false in begun_none _ _ _ c.requires _ c.args.passed c.if-b-eq91.false g.1 g.0 c.in_default-scalar_end.ensures c.stop_at-in_default-scalar_end.ensures
+pub scan_begun-returns-in_default : goal.scan_begun-returns-in_default
+scan_begun-returns-in_default t c = let g = c.opens_pairs.ensures.1 c.if-opens_pairs.false in begun_none _ _ _ c.requires _ c.args.passed c.if-b-eq91.false g.1 g.0 c.in_default.ensures c.stop_at-in_default.ensures
 
 pub scan_begun-returns : goal.scan_begun-returns
-scan_begun-returns t c = begun_whole _ _ _ _ c.args.passed _ c.in-Some-scalar_end.ensures
+scan_begun-returns t c = begun_whole _ _ _ _ c.args.passed _ c.in-Some.ensures
 
 pub scan_fragment-returns-then-input-p : goal.scan_fragment-returns-then-input-p
 scan_fragment-returns-then-input-p t c = from_here _ _ (block_of c.args.attributes) key _ _ _ (along_here _ _ c.args.attributes _ _ _ _ c.loop-depth.invariant c.past_pairs-q.ensures) _ c.skip-p.ensures (ended _ _ _ (λ K. (block_of c.args.attributes) ∷ K) key c.if-input-p.true)
