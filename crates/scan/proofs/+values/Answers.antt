@@ -1,5 +1,5 @@
 -- The functions of the cycle meet their contracts: each way through them is a law of proofs/Parts.
-use mathlib.Core.Path.{◌≡◌, refl, subst}
+use mathlib.Core.Path.{◌≡◌, subst}
 use Prim.Native.Nat.{ℕ}
 use mathlib.Core.List.{List, ◌∷◌}
 use mathlib.Core.Bool.{Bool, false}
