@@ -4,7 +4,7 @@
 // says why.
 #![tactic(auto)]
 
-ghost use Rattle.std.specs.Prelude.{◌≡◌, true, false, ◌⊎◌, ◌≤◌, ◌<◌, length};
+ghost use Rattle.std.specs.Prelude.{◌≡◌, ℕ, ◌+◌, true, false, ◌⊎◌, ◌≤◌, ◌<◌, length};
 ghost use Rattle.refusal.specs.Meaning.{why_number, unwhole_meaning};
 ghost use Rattle.refusal.specs.declared.Format.TheVariants.{Binary, Text};
 ghost use Rattle.token.specs.Ends.{string_end, scalar_end};
@@ -15,10 +15,54 @@ ghost use Rattle.scan.specs.Meaning.{scan_meaning};
 ghost use Rattle.scan.specs.Post.{answer_of, why_of, Tree, Begun, Pair, Items, Along, Pairs};
 
 use refusal::{Format, Refusal, Unread, Unwhole, Why};
+use std::marker::Model;
 use token::Placed;
 
 // How many blocks may be open at once.
 const MOST_OPEN: usize = 128;
+
+// How many blocks stand open around a part: MOST_OPEN at most.
+#[derive(Clone, Copy)]
+struct Depth {
+    blocks: usize,
+}
+
+impl Model for Depth {
+    ghost Value = { ℕ };
+
+    ghost view = { λ d. d.blocks };
+
+    ghost invariant = { λ d. d.blocks ≤ most_open };
+
+    ghost inverse = { λ n. record { blocks = n } };
+}
+
+impl Depth {
+    // No block stands open.
+    fn outermost() -> Self
+        ensures { result ≡ 0 }
+    {
+        Depth { blocks: 0 }
+    }
+
+    // May no block more be opened?
+    fn is_full(self) -> bool
+        ensures { (result ≡ true → self ≡ most_open) × (result ≡ false → self < most_open) }
+    {
+        self.blocks == MOST_OPEN
+    }
+
+    // In one block more.
+    // Kept: with an Option as the answer, in place of `is_full`, tiny records took 1.08 of the time.
+    fn deeper(self) -> Self
+        requires { self < most_open }
+        ensures { result ≡ self + 1 }
+    {
+        Depth {
+            blocks: self.blocks + 1,
+        }
+    }
+}
 
 // What the scan for one value answers: how many bytes it takes, with what is ignored before it, or why there is no whole one.
 pub type Scan = Result<usize, Unwhole>;
@@ -31,7 +75,7 @@ pub fn scan_value(input: &[u8], format: Format) -> Scan
     // Rust's, where the aim is 0.45); so they answer an Option, and `why` is lent.
     let mut why = Unwhole::Incomplete;
     let p = lexer::skip(input, 0, format);
-    match scan_begun(input, p, 0, false, format, &mut why) {
+    match scan_begun(input, p, Depth::outermost(), false, format, &mut why) {
         Some(len) => Ok(len),
         None => Err(why),
     }
@@ -52,15 +96,15 @@ fn stop_at(input: &[u8], p: usize, wrong: Why, format: Format) -> Unwhole
 }
 
 // A value: at most one attribute block, and then a scalar, a list or a map.
+// Kept: a struct of input and format by value took 1.21 of the instructions on deep lists, 1.10 on deep mixed; by reference 1.03, 0.97.
 #[cycle(values)]
 fn scan_tree(
     input: &[u8],
     at: usize,
-    depth: usize,
+    depth: Depth,
     format: Format,
     why: &mut Unwhole,
 ) -> Option<usize>
-    requires { depth ≤ most_open }
     ensures { Tree format input.now at depth (answer_of result why.new) }
 {
     let p = lexer::skip(input, at, format);
@@ -93,12 +137,12 @@ fn second_attributes(b: u8, passed: bool) -> bool
 fn scan_begun(
     input: &[u8],
     p: usize,
-    depth: usize,
+    depth: Depth,
     passed: bool,
     format: Format,
     why: &mut Unwhole,
 ) -> Option<usize>
-    requires { (depth ≤ most_open) × (skip_of format input.now p ≡ p) }
+    requires { skip_of format input.now p ≡ p }
     ensures { Begun format input.now p depth passed (answer_of result why.new) }
 {
     if input.len() <= p {
@@ -107,21 +151,21 @@ fn scan_begun(
     }
     let b = input[p];
     if b == b'[' {
-        if depth == MOST_OPEN {
+        if depth.is_full() {
             *why = Unwhole::Refused(Refusal {
                 why: Why::TooDeep,
                 place: p,
             });
             return None;
         }
-        return scan_list(input, p + 1, depth + 1, format, why);
+        return scan_list(input, p + 1, depth.deeper(), format, why);
     }
     if second_attributes(b, passed) {
         *why = stop_at(input, p, Why::NotValue, format);
         return None;
     }
     if opens_pairs(b) {
-        if depth == MOST_OPEN {
+        if depth.is_full() {
             *why = Unwhole::Refused(Refusal {
                 why: Why::TooDeep,
                 place: p,
@@ -129,7 +173,7 @@ fn scan_begun(
             return None;
         }
         let attributes = opens_attributes(b);
-        let end = scan_fragment(input, p + 1, depth + 1, attributes, format, why)?;
+        let end = scan_fragment(input, p + 1, depth.deeper(), attributes, format, why)?;
         if attributes {
             let o = lexer::skip(input, end, format);
             return scan_attributed(input, o, depth, format, why);
@@ -148,11 +192,11 @@ fn scan_begun(
 fn scan_attributed(
     input: &[u8],
     p: usize,
-    depth: usize,
+    depth: Depth,
     format: Format,
     why: &mut Unwhole,
 ) -> Option<usize>
-    requires { (depth ≤ most_open) × (skip_of format input.now p ≡ p) }
+    requires { skip_of format input.now p ≡ p }
     ensures { Begun format input.now p depth true (answer_of result why.new) }
 {
     scan_begun(input, p, depth, true, format, why)
@@ -163,11 +207,10 @@ fn scan_attributed(
 fn scan_list(
     input: &[u8],
     from: usize,
-    depth: usize,
+    depth: Depth,
     format: Format,
     why: &mut Unwhole,
 ) -> Option<usize>
-    requires { depth ≤ most_open }
     ensures { Items format input.now from depth (answer_of result why.new) }
 {
     let mut at = from;
@@ -298,12 +341,11 @@ fn past_pairs(input: &[u8], at: usize, format: Format) -> usize
 fn scan_fragment(
     input: &[u8],
     from: usize,
-    depth: usize,
+    depth: Depth,
     attributes: bool,
     format: Format,
     why: &mut Unwhole,
 ) -> Option<usize>
-    requires { depth ≤ most_open }
     ensures { Pairs format input.now from depth attributes (answer_of result why.new) }
 {
     let mut at = from;
@@ -346,11 +388,10 @@ fn scan_fragment(
 fn scan_pair(
     input: &[u8],
     at: usize,
-    depth: usize,
+    depth: Depth,
     format: Format,
     why: &mut Unwhole,
 ) -> Option<usize>
-    requires { depth ≤ most_open }
     ensures { Pair format input.now at depth (answer_of result why.new) }
 {
     let p = lexer::skip(input, at, format);

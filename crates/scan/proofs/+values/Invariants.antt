@@ -24,14 +24,14 @@ decreases-scan_pair l = 4 * (length l.input.now - l.at)
 abbrev pub decreases-scan_tree : goal.decreases-scan_tree
 decreases-scan_tree l = 4 * (length l.input.now - l.at) + 3
 
-abbrev pub invariant-scan_fragment-loop-format : goal.invariant-scan_fragment-loop-format
-invariant-scan_fragment-loop-format l = Here l.format l.input (block_of l.attributes) key l.depth l.from l.at
+abbrev pub invariant-scan_fragment-loop-depth : goal.invariant-scan_fragment-loop-depth
+invariant-scan_fragment-loop-depth l = Here l.format l.input (block_of l.attributes) key l.depth l.from l.at
 
-abbrev pub decreases-scan_fragment-loop-format : goal.decreases-scan_fragment-loop-format
-decreases-scan_fragment-loop-format l = length l.input - l.at
+abbrev pub decreases-scan_fragment-loop-depth : goal.decreases-scan_fragment-loop-depth
+decreases-scan_fragment-loop-depth l = length l.input - l.at
 
-abbrev pub invariant-scan_list-loop-format : goal.invariant-scan_list-loop-format
-invariant-scan_list-loop-format l = Here l.format l.input list item l.depth l.from l.at
+abbrev pub invariant-scan_list-loop-depth : goal.invariant-scan_list-loop-depth
+invariant-scan_list-loop-depth l = Here l.format l.input list item l.depth l.from l.at
 
-abbrev pub decreases-scan_list-loop-format : goal.decreases-scan_list-loop-format
-decreases-scan_list-loop-format l = length l.input - l.at
+abbrev pub decreases-scan_list-loop-depth : goal.decreases-scan_list-loop-depth
+decreases-scan_list-loop-depth l = length l.input - l.at

@@ -3,7 +3,6 @@ use mathlib.Core.Path.{◌≡◌, refl, sym, ◌∙◌}
 use Prim.Native.Nat.{ℕ}
 use mathlib.Core.List.{List, []}
 use mathlib.Core.Bool.{false}
-use native.Mathlib.Omega.{arith}
 use Rattle.refusal.specs.Paper.{Paper, gives, more, refused}
 use Rattle.refusal.specs.declared.Format.{Format}
 use Rattle.lexer.specs.Lexer.{skip_of}
@@ -15,9 +14,9 @@ use Rattle.scan.proofs.Tokens.{skip_here}
 use Rattle.scan.proofs.scan_value.Goals as goal
 
 -- what the value at the first place answers is what the scan does
-ends : {f : Format} {s : List ℕ} {r : Paper ℕ} (p : ℕ) → p ≡ skip_of f s 0 → Begun f s p 0 false r → r ≡ scan_of f s
+ends : {f : Format} {s : List ℕ} {r : Paper ℕ} (p : ℕ) {n : ℕ} → p ≡ skip_of f s 0 → n ≡ 0 → Begun f s p n false r → r ≡ scan_of f s
 unfolding scan_of after resume arrive
-ends {f} {s} {r} p e x = go r ∙ sym ((skipped f s p (λ K. K) value e x).runs [] refl)
+ends {f} {s} {r} p e z x = go r ∙ sym ((skipped f s p (λ K. K) value e x).runs [] (sym z))
   where
     go : (r : Paper ℕ) → r ≡ resume f s (after []) r
     go (gives q) = refl
@@ -25,10 +24,10 @@ ends {f} {s} {r} p e x = go r ∙ sym ((skipped f s p (λ K. K) value e x).runs 
     go (refused n vs) = refl
 
 pub scan_begun-requires : goal.scan_begun-requires
-scan_begun-requires c = (omega arith, skip_here _ _ _ _ c.skip-p.ensures)
+scan_begun-requires c = skip_here _ _ _ _ c.skip-p.ensures
 
 pub returns-in-Some : goal.returns-in-Some
-returns-in-Some c = ends _ c.skip-p.ensures c.in-Some.ensures
+returns-in-Some c = ends _ c.skip-p.ensures c.outermost.ensures c.in-Some.ensures
 
 pub returns-in-None : goal.returns-in-None
-returns-in-None c = ends _ c.skip-p.ensures c.in-None.ensures
+returns-in-None c = ends _ c.skip-p.ensures c.outermost.ensures c.in-None.ensures
