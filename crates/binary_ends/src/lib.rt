@@ -203,7 +203,10 @@ fn told_end(input: &[u8], b: u8, at: usize) -> Option<usize>
         return Some(p + 1);
     }
     let size = size_of(input, b, at);
-    if left < size || size == UNKNOWN {
+    if left < size {
+        return other_end(input, b, at);
+    }
+    if size == UNKNOWN {
         return other_end(input, b, at);
     }
     Some(p + size)
@@ -217,11 +220,17 @@ pub fn scalar_end(input: &[u8], at: usize) -> Option<usize>
         return None;
     }
     let b = input[at];
-    match b {
-        1..=6 => told_end(input, b, at),
-        b'#' => Some(at + 1),
-        _ => None,
+    // Kept: as one match these take the scan of integers and flat binary 1.03 of the instructions.
+    if 6 < b {
+        if b == b'#' {
+            return Some(at + 1);
+        }
+        return None;
     }
+    if b == 0 {
+        return None;
+    }
+    told_end(input, b, at)
 }
 
 // The place after the token at a place, whatever it is, where a whole one stands.

@@ -21,7 +21,11 @@ fn word_cut(s: &[u8], p: usize) -> u64
 pub fn word_at(s: &[u8], p: usize) -> u64
     ensures { result ≡ word_at 8 s.now p }
 {
-    if s.len() < 8 || s.len() - 8 < p {
+    // Kept: in one condition with `||` the two take the scan of flat binary and integers 1.03 of the instructions.
+    if s.len() < 8 {
+        return word_cut(s, p);
+    }
+    if s.len() - 8 < p {
         return word_cut(s, p);
     }
     u64::from_le_bytes(*s[p..p + 8].as_array().unwrap())

@@ -16,20 +16,20 @@ returns-then-input-at c =
     let x = c.args in
     sym (ap (λ (p : Paper (Spot Token)). scalar_end (kinds_of p)) (ended x.input.now x.at c.if-input-at.true))
 
-pub returns-in-35 : goal.returns-in-35
+pub returns-then-b-eq35 : goal.returns-then-b-eq35
 unfolding marked mark_of
-returns-in-35 c =
+returns-then-b-eq35 c =
     let x = c.args in
-    scalar_at x.input.now x.at 0x23 (omega arith) c.in-35.is
+    scalar_at x.input.now x.at 0x23 (omega arith) c.if-b-eq35.true
 
-pub returns-in_default : goal.returns-in_default
-returns-in_default c =
+pub returns-then-b-gt6 : goal.returns-then-b-gt6
+returns-then-b-gt6 c =
     let x = c.args in
     sym (no_scalar x.input.now x.at _ (λ e. omega arith) (λ e. omega arith) (λ e. omega arith) (λ e. omega arith) (λ e. omega arith) (λ e. omega arith) (λ e. omega arith))
     ∙ scalar_at x.input.now x.at _ (omega arith) refl
 
-pub returns-in_default-2 : goal.returns-in_default-2
-returns-in_default-2 c =
+pub returns-then-b-eq0 : goal.returns-then-b-eq0
+returns-then-b-eq0 c =
     let x = c.args in
     sym (no_scalar x.input.now x.at _ (λ e. omega arith) (λ e. omega arith) (λ e. omega arith) (λ e. omega arith) (λ e. omega arith) (λ e. omega arith) (λ e. omega arith))
     ∙ scalar_at x.input.now x.at _ (omega arith) refl
