@@ -50,6 +50,7 @@ fn number(answer: Scan) -> i64
 }
 
 // Minus a refusal's number.
+// Kept: numbers, since they are what the C interface answers.
 fn minus(number: usize) -> i64
     requires { number ≤ bad_call }
     ensures { result ≡ neg_ℤ (pos number) }

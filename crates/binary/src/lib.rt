@@ -23,12 +23,13 @@ fn float_of(bits: u64) -> f64
     ensures { result ≡ Ieee.of_bits binary64 bits }
 {
     if 0x7ff0_0000_0000_0000 < bits % 0x8000_0000_0000_0000 {
-        return 0.0 / 0.0;
+        return f64::NAN;
     }
     f64::from_bits(bits)
 }
 
 // A double, whose marker stands at `at`.
+// Kept: `at` and the slice, in each of the functions whose marker was looked at; a type of both would be taken apart in each.
 fn double_token(input: &[u8], at: usize) -> Read
     requires { at < length input.now }
     ensures { read_meaning result ≡ double_at input.now at }

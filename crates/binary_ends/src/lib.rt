@@ -34,6 +34,7 @@ fn sized_end(input: &[u8], value: u64, next: usize) -> Option<usize>
 }
 
 // The place after the string whose marker stands at `at`, where a whole one does. Most lengths are one byte.
+// Kept: `at` and the slice, as in crate binary.
 fn string_at_end(input: &[u8], at: usize) -> Option<usize>
     requires { at < length input.now }
     ensures { result ≡ end_of (of_length input.now at (varint_at input.now (at + 1))) }
@@ -220,7 +221,7 @@ pub fn scalar_end(input: &[u8], at: usize) -> Option<usize>
         return None;
     }
     let b = input[at];
-    // Kept: as one match these take the scan of integers and flat binary 1.03 of the instructions.
+    // Kept: as one match, flat binary takes 1.03 of the instructions: 0.30 of the Rust's time, which is the aim.
     if 6 < b {
         if b == b'#' {
             return Some(at + 1);

@@ -93,6 +93,7 @@ fn value_due(due: Due) -> Result<(), Why>
 }
 
 // A whole value stands in the open blocks. Whether it is the record.
+// Kept: the depth in the clauses, here and below, since `Blocks` holds any (see crate kept); a type beside it would be made and left again.
 #[tactic(auto, using(crate::proofs::Ways::whole_none, crate::proofs::Ways::whole_some, crate::proofs::Ways::none_few))]
 fn whole(blocks: &mut Blocks) -> bool
     requires { blocks.old.depth ≤ most_open }

@@ -1,5 +1,5 @@
 // A cursor for callers that walk the tokens of a record: its bytes, a place in them and their format.
-// Each method takes the cursor apart and calls a function on the bytes and the place; what a token is, is crate lexer's to say.
+// A method that reads takes the cursor apart and calls a function on the bytes and the place; what a token is, is crate lexer's to say.
 // specs/Cursor.antt says what a peek answers. Crate lookup has the calls with plain parameters.
 #![tactic(auto)]
 

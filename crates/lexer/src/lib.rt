@@ -15,6 +15,7 @@ use token::{Read, Unescaped};
 pub fn next_token(input: &[u8], at: usize, format: Format) -> Read
     ensures { read_meaning result ≡ token_at format input.now at }
 {
+    // Kept: a match here and in the four below, since the C call gives the format as a value; over a type the callers would match instead.
     match format {
         Format::Binary => binary::binary_token(input, at),
         Format::Text => text::text_token(input, at),

@@ -57,6 +57,7 @@ fn read_signed(t: &[u8]) -> Option<i64>
 }
 
 // The token of text that has `u` behind it.
+// Kept: beside `int_token`, since one function of both would take the reading, the kind of token and the reason: longer than the two.
 fn uint_token(t: &[u8], at: usize, next: usize) -> Read
     ensures { read_meaning result ≡ uint64_text at next t.now }
 {

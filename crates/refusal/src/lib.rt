@@ -1,6 +1,6 @@
 // The refusals: what a caller may be told instead of an answer, and the number that document 01 gives each.
 // specs/Numbers.antt has that table in the logic and specs/Meaning.antt gives each case its number and its values; the constants
-// below are the same table in code, and no other file of the repository writes such a number as a literal.
+// below are the same table in code, and no other crate writes such a number as a literal.
 #![tactic(auto)]
 
 ghost use Rattle.std.specs.Prelude.{◌≡◌};
@@ -173,6 +173,7 @@ fn why_of(number: usize) -> Why
     }
 }
 
+// Kept: a public function, and the way back from a number that was written down.
 // The refusal of a number from 1 to 13 at a place. (Any other number gives the last of them.)
 pub fn refusal_of(number: usize, place: usize) -> Refusal
     ensures { result ≡ named_by number place }
@@ -212,7 +213,7 @@ pub enum Unwhole {
     Refused(Refusal),
 }
 
-// Why a call is refused whose bytes may be well: each answer enum has these as cases of its own, with the values that it carries.
+// Why a call is refused whose bytes may be well: each answer has these as cases or types of its own, with the values that it carries.
 #[derive(Clone, Copy, Debug, PartialEq, Eq)]
 pub enum Cause {
     // 14: string bytes are wanted and the token is no string.

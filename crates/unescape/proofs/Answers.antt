@@ -29,9 +29,16 @@ module _ (s : List ℕ) (at : ℕ) (t : Token) (first next : ℕ) (e : quoted_at
   pub plain_string : (start len : ℕ) → extent_of t ≡ Some (Plain start len) → quoted_string_at s at ≡ gives (got (take len (drop start s)) next)
   plain_string start len x = string_is ∙ ap (λ (l : List ℕ). gives (got l next)) (string_bytes s at t first next start len e x)
 
-  pub whole_string : (start len : ℕ) → extent_of t ≡ Some (Quoted start len) → quoted_string_at s at ≡ bytes_from s start next
+  pub whole_string : quoted_string_at s at ≡ bytes_from s (at + 1) next
   unfolding quoted_bytes
-  whole_string start len x = rw (← starts start len x) string_is
+  whole_string = string_is
 
-  pub whole_pieces : (start len : ℕ) → extent_of t ≡ Some (Quoted start len) → (walk 0 (drop start s)).end ≡ closed
-  whole_pieces start len x = rw (← starts start len x) (quoted_ended s at t first next e).whole
+  pub whole_pieces : (walk 0 (drop (at + 1) s)).end ≡ closed
+  whole_pieces = (quoted_ended s at t first next e).whole
+
+  -- the same from where the token says that its bytes start
+  pub string_from : (start len : ℕ) → extent_of t ≡ Some (Quoted start len) → quoted_string_at s at ≡ bytes_from s start next
+  string_from start len x = rw (← starts start len x) whole_string
+
+  pub pieces_from : (start len : ℕ) → extent_of t ≡ Some (Quoted start len) → (walk 0 (drop start s)).end ≡ closed
+  pieces_from start len x = rw (← starts start len x) whole_pieces

@@ -21,7 +21,7 @@ fn word_cut(s: &[u8], p: usize) -> u64
 pub fn word_at(s: &[u8], p: usize) -> u64
     ensures { result ≡ word_at 8 s.now p }
 {
-    // Kept: in one condition with `||` the two take the scan of flat binary and integers 1.03 of the instructions.
+    // Kept: in one condition with `||` flat binary takes 1.03 of the instructions: 0.30 of the Rust's time, which is the aim.
     if s.len() < 8 {
         return word_cut(s, p);
     }
