@@ -15,7 +15,8 @@ ghost use Rattle.binary_ends.specs.Short.{short_string_end};
 use varint::Varint;
 
 // The size of a scalar that is not told by the bytes looked at.
-// Kept: in instructions Option<usize> took 1.07 on flat binary, 1.08 on integers, 1.02 on deep mixed; Option<u8> took 1.09, 1.10, 1.03.
+// To settle, since not timed: in instructions Option<usize> took 1.07 on flat binary, 1.08 on integers, 1.02 on deep mixed; Option<u8> took
+// 1.09, 1.10, 1.03.
 const UNKNOWN: usize = 1000;
 
 // The place after a string whose zigzag length was read up to `next`, unless that is below zero or the bytes end before.
@@ -221,7 +222,7 @@ pub fn scalar_end(input: &[u8], at: usize) -> Option<usize>
         return None;
     }
     let b = input[at];
-    // Kept: as one match, flat binary takes 1.03 of the instructions: 0.30 of the Rust's time, which is the aim.
+    // To settle: as one match, with `||` in `told_end`, flat binary takes 1.02 and integers 1.03 of the instructions; no goal is missed.
     if 6 < b {
         if b == b'#' {
             return Some(at + 1);

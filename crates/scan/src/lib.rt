@@ -72,8 +72,8 @@ pub type Scan = Result<usize, Unwhole>;
 pub fn scan_value(input: &[u8], format: Format) -> Scan
     ensures { scan_meaning result ≡ scan_of format input.now }
 {
-    // Kept: with a Result out of each private function, deep mixed took 0.47 of the Rust's time (the aim is 0.45); with attributes passed
-    // in a loop besides, 0.46, and deep lists 0.48, or 1.19 of this form's. So they answer an Option, and `why` is lent.
+    // To settle: with a Result out of each private function, deep mixed took 0.47 of the Rust's time, in a second form 0.46, and deep lists
+    // 0.48 (the aim is 0.45). A third form, with attributes passed in a loop, took 0.43 and 0.44, which meets it, and is not proved yet.
     let mut why = Unwhole::Incomplete;
     let p = lexer::skip(input, 0, format);
     match scan_begun(input, p, Depth::outermost(), false, format, &mut why) {
@@ -97,7 +97,7 @@ fn stop_at(input: &[u8], p: usize, wrong: Why, format: Format) -> Unwhole
 }
 
 // A value: at most one attribute block, and then a scalar, a list or a map.
-// Kept: a struct of input and format by value took 1.21 of the instructions on deep lists, 1.10 on deep mixed; by reference 1.03, 0.97.
+// Kept: a struct of input and format by value took 1.21 of the instructions on deep lists; by reference 1.03, with longer clauses.
 #[cycle(values)]
 fn scan_tree(
     input: &[u8],

@@ -113,8 +113,8 @@ fn by_words<C: Marked>(s: &[u8], at: usize, class: C) -> usize
     }
     let last = s.len() - 8;
     let mut p = at;
-    // Kept: over `chunks_exact(8)` quotes take 1.03 to 1.15 of the instructions and bytes up to 1.28, over `step_by(8)` up to 1.36; quoted
-    // text (0.18 of the Rust's time) and comments (0.44) have no room.
+    // To settle, since not timed: over `chunks_exact(8)` quotes take 1.03 to 1.15 of the instructions and bytes up to 1.28, over
+    // `step_by(8)` up to 1.36.
     while p <= last {
         let m = class.marks(s, p);
         if m != 0 {
@@ -126,8 +126,8 @@ fn by_words<C: Marked>(s: &[u8], at: usize, class: C) -> usize
 }
 
 // 0 if none of the 32 bytes from `p` on is a quote or a backslash. Each is counted by itself, so that 16 bytes are compared at once.
-// Kept: by `any` over the 32 bytes a run stops at the first, and bytes are compared one by one: up to 2.06 of the instructions.
-// As one function with `byte_in_32` over a class, quoted strings take 1.08 to 1.21.
+// To settle, since not timed: by `any` over the 32 bytes a run stops at the first, and bytes are compared one by one: up to 2.06 of the
+// instructions. As one function with `byte_in_32` over a class, quoted strings take 1.08 to 1.21.
 fn quote_in_32(s: &[u8], p: usize) -> u8
     requires { p + 32 ≤ length s.now }
     ensures { result ≡ 0 → first_from is_quote s.now (p + 32) ≡ first_from is_quote s.now p }
@@ -151,7 +151,7 @@ fn past_unquoted(s: &[u8], at: usize) -> usize
     }
     let last = s.len() - 32;
     let mut p = at;
-    // Kept: over `chunks_exact(32)` quotes take 1.05 to 1.11 of the instructions, where long quoted strings have no room.
+    // To settle, since not timed: over `chunks_exact(32)` quotes take 1.05 to 1.11 of the instructions.
     while p <= last {
         if quote_in_32(s, p) != 0 {
             return p;
@@ -225,7 +225,7 @@ pub fn find_byte(s: &[u8], at: usize, b: u8) -> usize
     }
     let last = s.len() - 32;
     let mut place = at;
-    // Kept: over `chunks_exact(32)` it takes 1.16 to 2.6 of the instructions, and comments (0.44 of the Rust's time, the aim is 0.45) miss.
+    // To settle, since not timed: over `chunks_exact(32)` it takes 1.16 to 2.6 of the instructions.
     while place <= last {
         let n = before_in_32(s, place, b);
         if n < 32 {
