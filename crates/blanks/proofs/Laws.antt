@@ -5,12 +5,12 @@ use mathlib.Core.Bool.{Bool, true, false}
 use mathlib.Core.List.{List, [], ◌∷◌}
 use Prim.Native.Nat.{ℕ, suc, ◌≤◌, ◌<◌}
 use native.Mathlib.Omega.{arith}
+use borrow.Author.Tests.{ne_eqb}
 use lib.Dec.{eqb}
-use lib.ListN.{length, get_or, drop, length-drop}
-use lib.Seq.{drop-drop}
+use lib.ListN.{length, get_or, drop, drop_of_length-le, length-drop}
+use lib.Seq.{drop-cons, drop-drop}
 use Rattle.refusal.specs.Paper.{pick}
 use Rattle.blanks.specs.Skip.{is_blank, ignored, in_line, in_block, skip_from, slash, star, newline}
-use Rattle.blanks.proofs.Ways.{blanks_end, blanks_stop}
 
 -- no more is ignored than there is
 mutual
@@ -92,6 +92,12 @@ mutual
       go i j true false = j
       go i j false u = j
 
+-- a byte that is neither a blank nor `/`
+none : (b : ℕ) (l : List ℕ) → is_blank b ≡ false → eqb b slash ≡ false → ignored (b ∷ l) ≡ 0
+unfolding ignored
+none b [] e f = rw e
+none b (c ∷ l) e f = rw (e, f)
+
 module _ (s : List ℕ) (at : ℕ) where
   -- skipping never goes back
   pub skip_forward : at ≤ skip_from s at
@@ -105,7 +111,8 @@ module _ (s : List ℕ) (at : ℕ) where
 
   -- at the end, and beyond it, there is nothing to skip
   pub skip_end : length s ≤ at → skip_from s at ≡ at
-  skip_end = blanks_end s at
+  unfolding skip_from ignored
+  skip_end h = rw (drop_of_length-le s h) (omega arith)
 
   -- a second skip finds nothing
   pub skip_again : skip_from s (skip_from s at) ≡ skip_from s at
@@ -114,4 +121,5 @@ module _ (s : List ℕ) (at : ℕ) where
 
   -- a byte that is neither a blank nor `/` is not ignored
   pub skip_here : at < length s → is_blank (get_or s at 0) ≡ false → (get_or s at 0 ≡ slash → ⊥) → skip_from s at ≡ at
-  skip_here = blanks_stop s at
+  unfolding skip_from
+  skip_here h e n = rw (drop-cons s at 0 h, none (get_or s at 0) (drop (suc at) s) e (ne_eqb _ _ n)) (omega arith)

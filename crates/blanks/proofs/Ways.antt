@@ -1,24 +1,54 @@
 -- One law for each way through the definition of what is ignored, by place: what holds from a place holds from the next.
-use mathlib.Core.Path.{◌≡◌, refl, sym, ap, ◌∙◌}
+use mathlib.Core.Path.{◌≡◌, refl, ap, ◌∙◌}
 use mathlib.Core.Bool.{Bool, true, false}
 use mathlib.Core.List.{List, [], ◌∷◌}
-use Prim.Native.Nat.{ℕ, suc, ◌+◌, ◌≤◌, ◌<◌}
+use Prim.Native.Nat.{ℕ, suc, ◌+◌, ◌-◌, ◌≤◌, ◌<◌}
 use native.Mathlib.Omega.{arith}
-use borrow.Author.Tests.{ne_eqb, eqb-true, eqb-false}
+use borrow.Author.Tests.{ne_eqb, eqb-false}
 use lib.Dec.{eqb}
 use lib.ListN.{length, get_or, drop, drop_of_length-le}
 use Rattle.search.proofs.Laws.{drop_more}
+use Rattle.refusal.specs.Paper.{pick}
 use Rattle.marks.specs.Classes.{is_byte}
 use Rattle.search.specs.First.{first_from}
-use Rattle.search.proofs.Laws.{same_at_first, first_found, found_on, from_le}
-use native.Mathlib.Nat.{le_refl, eq-or-lt_of_le}
-use mathlib.Core.Logic.{⊎_elim}
-use Rattle.blanks.specs.Skip.{is_blank, ignored, in_line, in_block, skip_from, line_from, block_from}
+use Rattle.search.proofs.Laws.{same_at_first}
+use Rattle.blanks.specs.Skip.{is_blank, ignored, in_line, in_block, skip_from}
+
+-- the five blanks, in the code's order
+pub blank_rest : (b : ℕ) → (b ≡ 32 → ⊥) → (b ≡ 10 → ⊥) → (b ≡ 13 → ⊥) → (b ≡ 9 → ⊥) → eqb b 12 ≡ is_blank b
+unfolding is_blank
+blank_rest b h i j k = rw (ne_eqb _ _ h, ne_eqb _ _ i, ne_eqb _ _ j, ne_eqb _ _ k) (go (eqb b 12))
+  where
+    go : (t : Bool) → t ≡ pick t true false
+    go true = refl
+    go false = refl
+
+pub blank_space : (b : ℕ) → b ≡ 32 → is_blank b ≡ true
+unfolding is_blank
+blank_space b e = rw e
 
 -- no blank is above 20
 pub blank_above : (b : ℕ) → 32 < b → is_blank b ≡ false
 unfolding is_blank
 blank_above b h = rw (ne_eqb b 9 (λ e. omega arith), ne_eqb b 10 (λ e. omega arith), ne_eqb b 12 (λ e. omega arith), ne_eqb b 13 (λ e. omega arith), ne_eqb b 32 (λ e. omega arith))
+
+pub blank_past : (b : ℕ) → (b ≡ 32 → ⊥) → 32 ≤ b → is_blank b ≡ false
+blank_past b n h = blank_above b (omega arith)
+
+-- from a later place it is less far to the end
+pub nearer : {n p q : ℕ} → p + 1 ≤ q → p < n → n - q < n - p
+nearer h i = omega arith
+
+-- and what lay before the place lies before the later one
+pub onward : {o p q : ℕ} → o ≤ p → p + 1 ≤ q → o ≤ q
+onward h i = omega arith
+
+-- the first place that is not ignored, from inside a comment of either kind
+unfoldable pub line_from : List ℕ → ℕ → ℕ
+line_from s p = p + in_line (drop p s)
+
+unfoldable pub block_from : List ℕ → ℕ → ℕ
+block_from s p = p + in_block (drop p s)
 
 module _ (s : List ℕ) (p : ℕ) where
   -- the suffix is empty, has one byte or has two
@@ -88,24 +118,24 @@ module _ (s : List ℕ) (p : ℕ) (h : p + 1 < length s) where
   drop_two : drop p s ≡ get_or s p 0 ∷ get_or s (p + 1) 0 ∷ drop (p + 1 + 1) s
   drop_two = drop_more s p (omega arith) ∙ ap (λ (l : List ℕ). get_or s p 0 ∷ l) (drop_more s (p + 1) h)
 
-  two : p + 2 ≡ p + 1 + 1
-  two = omega arith
-
   pub open_line : is_blank (get_or s p 0) ≡ false → get_or s p 0 ≡ 47 → get_or s (p + 1) 0 ≡ 47 → skip_from s p ≡ line_from s (p + 2)
   unfolding skip_from line_from ignored
   open_line n e f = rw (two, drop_two, n, e, f) (omega arith)
+    where
+      two : p + 2 ≡ p + 1 + 1
+      two = omega arith
 
-  pub open_block : is_blank (get_or s p 0) ≡ false → get_or s p 0 ≡ 47 → get_or s (p + 1) 0 ≡ 42 → skip_from s p ≡ block_from s (p + 2)
+  pub open_block : is_blank (get_or s p 0) ≡ false → get_or s p 0 ≡ 47 → get_or s (p + 1) 0 ≡ 42 → skip_from s p ≡ block_from s (p + 1 + 1)
   unfolding skip_from block_from ignored
-  open_block n e f = rw (two, drop_two, n, e, f) (omega arith)
+  open_block n e f = rw (drop_two, n, e, f) (omega arith)
 
   pub open_none : is_blank (get_or s p 0) ≡ false → get_or s p 0 ≡ 47 → (get_or s (p + 1) 0 ≡ 47 → ⊥) → (get_or s (p + 1) 0 ≡ 42 → ⊥) → skip_from s p ≡ p
   unfolding skip_from ignored
   open_none n e f g = rw (drop_two, n, e, ne_eqb _ _ f, ne_eqb _ _ g) (omega arith)
 
-  pub block_end : get_or s p 0 ≡ 42 → get_or s (p + 1) 0 ≡ 47 → block_from s p ≡ skip_from s (p + 2)
+  pub block_end : get_or s p 0 ≡ 42 → get_or s (p + 1) 0 ≡ 47 → block_from s p ≡ skip_from s (p + 1 + 1)
   unfolding skip_from block_from in_block
-  block_end e f = rw (two, drop_two, e, f) (omega arith)
+  block_end e f = rw (drop_two, e, f) (omega arith)
 
   pub block_star : (get_or s (p + 1) 0 ≡ 47 → ⊥) → block_from s p ≡ block_from s (p + 1)
   unfolding block_from in_block
@@ -124,41 +154,3 @@ module _ (s : List ℕ) where
   pub block_jump : (p : ℕ) → block_from s p ≡ block_from s (first_from (is_byte 42) s p)
   unfolding is_byte
   block_jump = same_at_first (is_byte 42) s (block_from s) (λ p h e. block_more s p h (eqb-false _ _ e))
-
-  -- a `//` comment goes on behind its newline, or ends with the bytes
-  module _ (p q : ℕ) (e : q ≡ first_from (is_byte 10) s p) where
-    pub line_past : q < length s → skip_from s (q + 1) ≡ line_from s p
-    unfolding is_byte
-    line_past h = sym (line_end s q h (eqb-true _ _ (rw e (first_found (is_byte 10) s p (rw (← e) h))))) ∙ ap (line_from s) e ∙ sym (line_jump p)
-
-    pub line_cut : length s ≤ q → skip_from s q ≡ line_from s p
-    line_cut h = blanks_end s q h ∙ sym (line_out s q h) ∙ ap (line_from s) e ∙ sym (line_jump p)
-
-  -- the next `*` in a `/*` comment
-  module _ (p q : ℕ) (e : q ≡ first_from (is_byte 42) s p) where
-    pub star_at : q < length s → get_or s q 0 ≡ 42
-    unfolding is_byte
-    star_at h = eqb-true _ _ (rw e (first_found (is_byte 42) s p (rw (← e) h)))
-
-    pub star_low : p ≤ q
-    star_low = found_on (is_byte 42) s p q e
-
-    pub star_high : p ≤ length s → q ≤ length s
-    star_high h = omega (arith, from_le (is_byte 42) s p)
-
-    pub star_goes : block_from s q ≡ block_from s p
-    star_goes = ap (block_from s) e ∙ sym (block_jump p)
-
-  -- a byte behind a `*` that ends nothing and is no `*` is passed with it
-  pub star_past : (p : ℕ) → p + 1 < length s → (get_or s (p + 1) 0 ≡ 47 → ⊥) → (get_or s (p + 1) 0 ≡ 42 → ⊥) → block_from s p ≡ block_from s (p + 2)
-  star_past p h m n = block_star s p h m ∙ block_more s (p + 1) h n ∙ ap (block_from s) two
-    where
-      two : p + 1 + 1 ≡ p + 2
-      two = omega arith
-
-  -- with at most a last byte left, a `/*` comment ends with the bytes
-  pub block_cut : (p : ℕ) → p ≤ length s → length s ≤ p + 1 → skip_from s (length s) ≡ block_from s p
-  block_cut p h n = blanks_end s (length s) (le_refl _) ∙ ⊎_elim (λ k. sym (block_out s p (omega arith) ∙ k)) last (eq-or-lt_of_le h)
-    where
-      last : p < length s → length s ≡ block_from s p
-      last k = sym (block_last s p k n ∙ block_out s (p + 1) n ∙ (omega arith))

@@ -46,10 +46,3 @@ unfoldable mutual
 -- the first place from at on that is not ignored
 unfoldable pub skip_from : List ℕ → ℕ → ℕ
 skip_from s at = at + ignored (drop at s)
-
--- the same from a place inside a comment of either kind
-unfoldable pub line_from : List ℕ → ℕ → ℕ
-line_from s p = p + in_line (drop p s)
-
-unfoldable pub block_from : List ℕ → ℕ → ℕ
-block_from s p = p + in_block (drop p s)

@@ -1,18 +1,23 @@
 -- `first_place` meets its contract: from each blank that it passes, the place that is not ignored is the same.
 use mathlib.Core.Path.{sym, ◌∙◌}
 use native.Mathlib.Omega.{arith}
-use Rattle.blanks.proofs.Ways.{blanks_more, blanks_end, blanks_stop}
+use Rattle.blanks.proofs.Ways.{blank_space, blank_above, blanks_more, blanks_end, blanks_stop}
 use Rattle.blanks.proofs.first_place.Goals as goal
 
-pub loop-b-preserved : goal.loop-b-preserved
-loop-b-preserved c =
-    let z = c.in-Some.ensures.lookup.3 in
-    sym (blanks_more _ _ z.0 (rw (← z.1 0) (sym c.is_blank.ensures ∙ c.if-is_blank.true))) ∙ c.loop-b.invariant
+pub returns-then-a-gt47 : goal.returns-then-a-gt47
+returns-then-a-gt47 c = sym (blanks_stop _ _ (omega arith) (blank_above _ (omega arith)) (λ e. omega arith)) ∙ c.loop-p.invariant
 
-pub returns-in_default-2 : goal.returns-in_default-2
-returns-in_default-2 c =
-    let z = c.in-Some.ensures.lookup.3 in
-    sym (blanks_stop _ _ z.0 (rw (← z.1 0) (sym c.is_blank.ensures ∙ c.if-is_blank.false)) (λ e. omega (arith, z.1 0))) ∙ c.loop-b.invariant
+pub loop-p-preserved-then-a-eq32 : goal.loop-p-preserved-then-a-eq32
+loop-p-preserved-then-a-eq32 c = sym (blanks_more _ _ (omega arith) (blank_space _ c.if-a-eq32.true)) ∙ c.loop-p.invariant
+
+pub returns-then-a-ne47 : goal.returns-then-a-ne47
+returns-then-a-ne47 c = sym (blanks_stop _ _ (omega arith) (blank_above _ (omega arith)) c.if-a-ne47.true) ∙ c.loop-p.invariant
+
+pub returns-then-not-is_blank : goal.returns-then-not-is_blank
+returns-then-not-is_blank c = sym (blanks_stop _ _ (omega arith) (sym c.is_blank.ensures ∙ c.if-not-is_blank.true) (λ e. omega arith)) ∙ c.loop-p.invariant
+
+pub loop-p-preserved : goal.loop-p-preserved
+loop-p-preserved c = sym (blanks_more _ _ (omega arith) (sym c.is_blank.ensures ∙ c.if-not-is_blank.false)) ∙ c.loop-p.invariant
 
 pub returns : goal.returns
-returns c = sym (blanks_end _ _ c.in_default.ensures.lookup.3) ∙ c.loop-b.invariant
+returns c = sym (blanks_end _ _ (omega arith)) ∙ c.loop-p.invariant

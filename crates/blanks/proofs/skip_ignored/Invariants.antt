@@ -1,10 +1,25 @@
--- `skip_ignored` meets its contract: from each blank and each comment that it passes, the place that is not ignored is the same.
-use Rattle.std.proofs.Common.{◌≡◌, length, ◌-◌}
+-- `skip_ignored` meets its contract: in each of its three loops the place that it goes to is the one from the start.
+use mathlib.Core.Path.{◌≡◌}
+use Prim.Native.Nat.{◌≤◌, ◌-◌}
+use lib.ListN.{length}
 use Rattle.blanks.specs.Skip.{skip_from}
+use Rattle.blanks.proofs.Ways.{line_from, block_from}
 use Rattle.blanks.proofs.skip_ignored.Given as goal
 
-abbrev pub invariant-loop-b : goal.invariant-loop-b
-invariant-loop-b l = skip_from l.input l.p ≡ skip_from l.input l.at
+abbrev pub invariant-line : goal.invariant-line
+invariant-line l = (l.initial.p ≤ l.p) × (line_from l.input l.p ≡ skip_from l.input l.at)
 
-abbrev pub decreases-loop-b : goal.decreases-loop-b
-decreases-loop-b l = length l.input - l.p
+abbrev pub decreases-line : goal.decreases-line
+decreases-line l = length l.input - l.p
+
+abbrev pub invariant-block : goal.invariant-block
+invariant-block l = (l.initial.p ≤ l.p) × (block_from l.input l.p ≡ skip_from l.input l.at)
+
+abbrev pub decreases-block : goal.decreases-block
+decreases-block l = length l.input - l.p
+
+abbrev pub invariant-blanks : goal.invariant-blanks
+invariant-blanks l = skip_from l.input l.p ≡ skip_from l.input l.at
+
+abbrev pub decreases-blanks : goal.decreases-blanks
+decreases-blanks l = length l.input - l.p
