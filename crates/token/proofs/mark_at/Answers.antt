@@ -1,9 +1,6 @@
 -- `mark_at` meets its contract.
-use mathlib.Core.Path.{◌≡◌, ◌∙◌, sym, ap}
+use mathlib.Core.Path.{◌∙◌, sym}
 use native.Mathlib.Omega.{arith}
-use lib.ListN.{get_or}
-use Rattle.refusal.specs.Meaning.{refusal_meaning}
-use Rattle.token.specs.Marks.{mark_of, of_mark}
 use Rattle.token.proofs.Marks.{mark_beyond, mark_ended, mark_inside}
 use Rattle.token.proofs.mark_at.Goals as goal
 
@@ -17,14 +14,5 @@ returns-then-input-at-2 c =
     let x = c.args in
     sym (mark_ended x.input.now x.at (omega arith) (omega arith))
 
-pub returns-in-Some : goal.returns-in-Some
-returns-in-Some c =
-    let x = c.args in
-    let mark : _ ≡ mark_of (get_or x.input.now x.at 0) = c.mark_of.ensures in
-    ap (of_mark x.at) (sym c.in-Some.is ∙ mark) ∙ sym (mark_inside x.input.now x.at (omega arith))
-
-pub returns-in-None : goal.returns-in-None
-returns-in-None c =
-    let x = c.args in
-    let mark : _ ≡ mark_of (get_or x.input.now x.at 0) = c.mark_of.ensures in
-    ap refusal_meaning c.at.ensures ∙ ap (of_mark x.at) (sym c.in-None.is ∙ mark) ∙ sym (mark_inside x.input.now x.at (omega arith))
+pub returns : goal.returns
+returns c = c.mark_of.ensures ∙ sym (mark_inside c.args.input.now c.args.at (omega arith))
