@@ -2,16 +2,16 @@
 // specs/Pieces.antt decides both, and specs/Answers.antt says what each answer means.
 #![tactic(auto)]
 
-ghost use Rattle.std.specs.Prelude.{◌≡◌, ◌<◌, drop, SomeIff};
+ghost use Rattle.std.specs.Prelude.{◌≡◌, ◌<◌, drop, SomeIff, IfOk, IfErr};
 ghost use Rattle.pieces.specs.Bytes.{hex_digit};
-ghost use Rattle.pieces.specs.Pieces.{byte, hex_of, third_of, octal_of, escape_of, walk};
-ghost use Rattle.pieces.specs.Answers.{piece_meaning, measure_of};
+ghost use Rattle.pieces.specs.Pieces.{byte, ends, hex_of, third_of, octal_of, escape_of, walk};
+ghost use Rattle.pieces.specs.Answers.{broken_at, piece_meaning, measure_of};
 
 // An escape: the byte that it gives, and how many input bytes it takes, the backslash among them: two to four.
 #[derive(Clone, Copy, Debug, PartialEq, Eq)]
 pub struct Escaped {
     pub byte: u8,
-    pub size: u8,
+    pub size: usize,
 }
 
 // Why an escape, or the pieces up to a closing quote, are not whole.
@@ -36,21 +36,21 @@ fn hex_digit(b: u8) -> Option<u8>
     }
 }
 
-// The escape `\x`, by the bytes behind it.
+// The byte that the escape `\x` gives, by the bytes behind it.
 #[tactic(auto, unfolding(crate::specs::Pieces::hex_of))]
-fn hex(t: &[u8]) -> Result<Escaped, Broken>
-    ensures { piece_meaning result ≡ hex_of t.now }
+fn hex(t: &[u8]) -> Result<u8, Broken>
+    ensures gives { IfOk result (λ b. byte b 4 ≡ hex_of t.now) }
+    ensures ends { IfErr result (λ e. ends (broken_at e) ≡ hex_of t.now) }
 {
     let [a, b, ..] = *t else {
         return Err(Broken::Cut);
     };
     let low = hex_digit(b).ok_or(Broken::Bad)?;
-    let byte = match hex_digit(a) {
-        Some(high) => high * 16 + low,
-        None if a == b'+' => low,
-        None => return Err(Broken::Bad),
-    };
-    Ok(Escaped { byte, size: 4 })
+    match hex_digit(a) {
+        Some(high) => Ok(high * 16 + low),
+        None if a == b'+' => Ok(low),
+        None => Err(Broken::Bad),
+    }
 }
 
 // The octal escape whose first two digits have the value `w`, by the bytes behind them. A third counts if the value stays at most 255.
@@ -92,7 +92,12 @@ pub fn escape(t: &[u8]) -> Result<Escaped, Broken>
         b'n' => b'\n',
         b'r' => b'\r',
         b't' => b'\t',
-        b'x' => return hex(rest),
+        b'x' => {
+            return Ok(Escaped {
+                byte: hex(rest)?,
+                size: 4,
+            });
+        }
         b'0'..=b'7' => return Ok(octal(c - b'0', rest)),
         _ => c,
     };
@@ -109,7 +114,7 @@ pub fn measure(input: &[u8], from: usize) -> Result<usize, Broken>
     while let Some(&b) = input.get(p) {
         match b {
             b'"' => return Ok(n),
-            b'\\' => p += usize::from(escape(&input[p + 1..])?.size),
+            b'\\' => p += escape(&input[p + 1..])?.size,
             _ => p += 1,
         }
         n += 1;

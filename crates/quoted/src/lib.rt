@@ -92,7 +92,7 @@ fn whole_end(input: &[u8], from: usize) -> Option<usize>
         let Ok(escape) = pieces::escape(&input[p + 1..]) else {
             return None;
         };
-        p = search::find_quote(input, p + usize::from(escape.size));
+        p = search::find_quote(input, p + escape.size);
     }
     None
 }

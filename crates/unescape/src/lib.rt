@@ -26,7 +26,7 @@ fn write(input: &[u8], from: usize, out: &mut [u8])
                 let Ok(escape) = pieces::escape(&input[p + 1..]) else {
                     return;
                 };
-                p += usize::from(escape.size);
+                p += escape.size;
                 escape.byte
             }
             _ => {

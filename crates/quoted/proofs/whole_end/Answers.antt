@@ -23,5 +23,5 @@ loop-b-smaller c =
 pub loop-b-preserved : goal.loop-b-preserved
 loop-b-preserved c =
     let z = c.in-Some.ensures.lookup.3 in
-    let q = rw c.from.ensures at c.find_quote-p-in-Some.ensures in
+    let q = c.find_quote-p-in-Some.ensures in
     (found_quote _ _ _ q, ap (whole_from _) q ∙ sym (whole_jump _ _) ∙ whole_byte _ _ z.0 (c.loop-b.invariant.0 z.0) (λ e. c.if-b-eq34.false (z.1 0 ∙ e)) _ c.in-Ok.ensures ∙ c.loop-b.invariant.1)
