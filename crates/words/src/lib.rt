@@ -57,24 +57,23 @@ impl Word {
     }
 }
 
-// The word that stands at a place within the slice.
+// The word that stands at a place within the slice. A word is told by its first byte.
+// Kept: the first byte before the tests, one of which is made then: all five, one after another, took twice the time.
 fn word_at(s: &[u8], p: usize) -> Option<Word>
     requires { p ≤ length s.now }
     ensures { WordAt s.now p result }
 {
+    if s.len() <= p {
+        return None;
+    }
     let rest = &s[p..];
-    if rest.starts_with(b"true") {
-        Some(Word::True)
-    } else if rest.starts_with(b"false") {
-        Some(Word::False)
-    } else if rest.starts_with(b"nan") {
-        Some(Word::Nan)
-    } else if rest.starts_with(b"inf") {
-        Some(Word::Inf)
-    } else if rest.starts_with(b"-inf") {
-        Some(Word::NegInf)
-    } else {
-        None
+    match s[p] {
+        b't' if rest.starts_with(b"true") => Some(Word::True),
+        b'f' if rest.starts_with(b"false") => Some(Word::False),
+        b'n' if rest.starts_with(b"nan") => Some(Word::Nan),
+        b'i' if rest.starts_with(b"inf") => Some(Word::Inf),
+        b'-' if rest.starts_with(b"-inf") => Some(Word::NegInf),
+        _ => None,
     }
 }
 
