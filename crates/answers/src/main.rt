@@ -51,7 +51,7 @@ impl Desk<'_> {
             kind => kind,
         };
         let Some(payload) = payload.get_mut(..size) else {
-            read::skip(*stdin, size as u64)?;
+            read::skip(*stdin, size as u64, payload)?;
             return Err(kind?.longer());
         };
         read::fill(*stdin, payload)?;
