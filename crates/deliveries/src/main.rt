@@ -76,18 +76,18 @@ fn read_full(mut stdin: Stdin, bytes: &mut [u8]) -> usize
     done
 }
 
-// A number of four bytes, lowest first, of which those that do not come are zeros.
-fn read_number(stdin: Stdin) -> u32 {
-    let mut bytes = [0; 4];
-    read_full(stdin, &mut bytes);
-    u32::from_le_bytes(bytes)
+// The three numbers in front, each of four bytes, lowest first, of which those that do not come are zeros. They are read at once: where the
+// input ends inside them, the stream begins behind them.
+fn read_head(stdin: Stdin) -> [u32; 3] {
+    let mut head = [0; 12];
+    read_full(stdin, &mut head);
+    let [a, b, c, d, e, f, g, h, i, j, k, l] = head;
+    [[a, b, c, d], [e, f, g, h], [i, j, k, l]].map(u32::from_le_bytes)
 }
 
 fn run(rt: HostRuntime, buf: &mut [u8], stream: &mut [u8]) {
     let stdin = rt.stdin();
-    let size = read_number(stdin);
-    let count = read_number(stdin);
-    let times = read_number(stdin);
+    let [size, count, times] = read_head(stdin);
     let n = read_full(stdin, stream);
     let state = reader::open(0, buf).state;
     let mut rounds = Rounds {
