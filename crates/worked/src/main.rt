@@ -9,92 +9,88 @@ mod tokens;
 
 use refusal::Format;
 use shown::{Hex, Shown};
-use std::io;
 use token::{Copied, Placed};
 use varint::{ShortOutput, Varint};
 
 // A number, and the bytes that were written for it at the front of an area.
-fn written(
-    rt: &impl Print,
-    number: u64,
-    written: Result<usize, ShortOutput>,
-    area: &[u8],
-) -> io::Result<()> {
-    match written {
+fn written(rt: &impl Print, number: u64, written: Result<usize, ShortOutput>, area: &[u8]) {
+    let _ = match written {
         Ok(count) => println!(rt; "{number} is {}", Hex(&area[..count.min(area.len())])),
         Err(why) => println!(rt; "{number} {}", Shown(why)),
-    }
+    };
 }
 
 // A number's bytes.
-fn unsigned(rt: &impl Print, value: u64) -> io::Result<()> {
+fn unsigned(rt: &impl Print, value: u64) {
     let mut area = [0u8; 10];
     let count = varint::write_uvarint(value, &mut area);
     written(rt, value, count, &area)
 }
 
 // A signed number and the unsigned one that stands for it.
-fn zigzag(rt: &impl Print, value: i64) -> io::Result<()> {
-    print!(rt; "signed {value} is zigzag ")?;
+fn zigzag(rt: &impl Print, value: i64) {
+    let _ = print!(rt; "signed {value} is zigzag ");
     let mut area = [0u8; 10];
     let count = varint::write_varint(value, &mut area);
     match varint::read_uvarint(&area, 0) {
         Ok(Varint { value, .. }) => written(rt, value, count, &area),
-        Err(why) => println!(rt; "{}", Shown(why)),
+        Err(why) => {
+            let _ = println!(rt; "{}", Shown(why));
+        }
     }
 }
 
 // What a signed varint reads as.
-fn signed(rt: &impl Print, bytes: &[u8]) -> io::Result<()> {
-    match varint::read_varint(bytes, 0) {
+fn signed(rt: &impl Print, bytes: &[u8]) {
+    let _ = match varint::read_varint(bytes, 0) {
         Ok(Varint { value, next }) => println!(rt; "{value} in {next}"),
         Err(why) => println!(rt; "{}", Shown(why)),
-    }
+    };
 }
 
 // What the scan answers.
-fn scanned(rt: &impl Print, bytes: &[u8], format: Format) -> io::Result<()> {
-    match scan::scan_value(bytes, format) {
+fn scanned(rt: &impl Print, bytes: &[u8], format: Format) {
+    let _ = match scan::scan_value(bytes, format) {
         Ok(len) => println!(rt; "length {len}"),
         Err(why) => println!(rt; "{}", Shown(why)),
-    }
+    };
 }
 
 // The bytes of a string.
-fn string(rt: &impl Print, text: &str) -> io::Result<()> {
-    print!(rt; "{text} : ")?;
+fn string(rt: &impl Print, text: &str) {
+    let _ = print!(rt; "{text} : ");
     let mut area = [0u8; 16];
-    match lexer::string_bytes(text.as_bytes(), 0, Format::Text, &mut area) {
+    let _ = match lexer::string_bytes(text.as_bytes(), 0, Format::Text, &mut area) {
         Ok(Copied { count, .. }) => println!(rt; "{}", Hex(&area[..count.min(area.len())])),
         Err(why) => println!(rt; "{}", Shown(why)),
-    }
+    };
 }
 
 // Which kind of number some text is.
-fn number(rt: &impl Print, text: &str) -> io::Result<()> {
-    print!(rt; "{text} : ")?;
-    match lexer::next_token(text.as_bytes(), 0, Format::Text) {
+fn number(rt: &impl Print, text: &str) {
+    let _ = print!(rt; "{text} : ");
+    let _ = match lexer::next_token(text.as_bytes(), 0, Format::Text) {
         Ok(Placed { token, next, .. }) => println!(rt; "{} of {next}", Shown(token)),
         Err(why) => println!(rt; "{}", Shown(why)),
-    }
+    };
 }
 
 // The Protocol Buffers encoding document.
-fn varints(rt: &impl Print) -> io::Result<()> {
-    println!(rt; "varints")?;
+fn varints(rt: &impl Print) {
+    let _ = println!(rt; "varints");
     for value in [1, 150, 300] {
-        unsigned(rt, value)?;
+        unsigned(rt, value);
     }
     for value in [0, -1, 1, -2, 2147483647, -2147483648] {
-        zigzag(rt, value)?;
+        zigzag(rt, value);
     }
-    signed(rt, b"\xff\xff\xff\xff\xff\xff\xff\xff\xff\x01")?;
+    signed(rt, b"\xff\xff\xff\xff\xff\xff\xff\xff\xff\x01");
     signed(rt, b"\x96\x01")
 }
 
 // Document 01 and the documentation of f64::from_str.
-fn numbers(rt: &impl Print) -> io::Result<()> {
-    println!(rt; "numbers")?;
+fn numbers(rt: &impl Print) {
+    let _ = println!(rt; "numbers");
     for text in [
         "12",
         "-0u",
@@ -120,13 +116,12 @@ fn numbers(rt: &impl Print) -> io::Result<()> {
         "%true",
         "%false",
     ] {
-        number(rt, text)?;
+        number(rt, text);
     }
-    Ok(())
 }
 
-fn strings(rt: &impl Print) -> io::Result<()> {
-    println!(rt; "strings")?;
+fn strings(rt: &impl Print) {
+    let _ = println!(rt; "strings");
     for text in [
         "\"\\400\"",
         "\"\\x+4\"",
@@ -139,14 +134,13 @@ fn strings(rt: &impl Print) -> io::Result<()> {
         "12",
         "\"0123456789abcdefg\"",
     ] {
-        string(rt, text)?;
+        string(rt, text);
     }
-    Ok(())
 }
 
 // Places and orders of refusals.
-fn scans(rt: &impl Print) -> io::Result<()> {
-    println!(rt; "scans")?;
+fn scans(rt: &impl Print) {
+    let _ = println!(rt; "scans");
     for text in [
         "12",
         "%tr",
@@ -163,8 +157,8 @@ fn scans(rt: &impl Print) -> io::Result<()> {
         "/",
         "{a=\"x\\y\";b=[%true;#]}",
     ] {
-        print!(rt; "{text} : ")?;
-        scanned(rt, text.as_bytes(), Format::Text)?;
+        let _ = print!(rt; "{text} : ");
+        scanned(rt, text.as_bytes(), Format::Text);
     }
     for bytes in [
         b"\x01\x04ab".as_slice(),
@@ -175,15 +169,14 @@ fn scans(rt: &impl Print) -> io::Result<()> {
         b"{\x01\x02a=\x02\x02}",
         b"\x03\x00\x00\x00\x00\x00\x00\xf0\x7f",
     ] {
-        print!(rt; "{} : ", Hex(bytes))?;
-        scanned(rt, bytes, Format::Binary)?;
+        let _ = print!(rt; "{} : ", Hex(bytes));
+        scanned(rt, bytes, Format::Binary);
     }
-    Ok(())
 }
 
 // What the C call answers for a format number and some bytes: a length, Incomplete, a refusal, and a format that there is not.
-fn calls(rt: &impl Print) -> io::Result<()> {
-    println!(rt; "C call")?;
+fn calls(rt: &impl Print) {
+    let _ = println!(rt; "C call");
     for (format, bytes) in [
         (0, b"#".as_slice()),
         (1, b"[1 2]"),
@@ -192,21 +185,20 @@ fn calls(rt: &impl Print) -> io::Result<()> {
         (2, b"#"),
     ] {
         let answer = abi::yson_scan(format, bytes);
-        println!(rt; "{format}, {} : {answer}", Hex(bytes))?;
+        let _ = println!(rt; "{format}, {} : {answer}", Hex(bytes));
     }
-    Ok(())
 }
 
-fn examples(rt: &impl Print) -> io::Result<()> {
-    varints(rt)?;
-    numbers(rt)?;
-    strings(rt)?;
-    scans(rt)?;
-    tokens::all(rt)?;
-    streams::all(rt)?;
+fn examples(rt: &impl Print) {
+    varints(rt);
+    numbers(rt);
+    strings(rt);
+    scans(rt);
+    tokens::all(rt);
+    streams::all(rt);
     calls(rt)
 }
 
 fn main(rt: HostRuntime) {
-    let _ = examples(&rt);
+    examples(&rt);
 }
