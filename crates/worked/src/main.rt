@@ -1,6 +1,7 @@
 // The worked examples that are run and not proved: those of document 01, the vectors of the Protocol Buffers encoding document, the
 // literals of the public YSON page, and texts of the documentation of `f64::from_str` that can stand in a number token. Each line of
-// its file stdout was written from those documents. What cannot be written is told nowhere.
+// its file stdout was written from those documents. Each word is a write of its own, tried whatever became of the words before it.
+// What cannot be written is told nowhere.
 #![tactic(auto)]
 
 mod shown;
@@ -8,89 +9,90 @@ mod streams;
 mod tokens;
 
 use refusal::Format;
-use shown::{Hex, Shown};
+use shown::{Hex, Padded, Shown, Signed, Words};
+use std::fmt::Write as _;
 use token::{Copied, Placed};
 use varint::{ShortOutput, Varint};
 
 // A number, and the bytes that were written for it at the front of an area.
-fn written(rt: &impl Print, number: u64, written: Result<usize, ShortOutput>, area: &[u8]) {
+fn written(w: &mut Words, number: u64, written: Result<usize, ShortOutput>, area: &[u8]) {
     let _ = match written {
-        Ok(count) => println!(rt; "{number} is {}", Hex(&area[..count.min(area.len())])),
-        Err(why) => println!(rt; "{number} {}", Shown(why)),
+        Ok(count) => writeln!(w, "{number} is{}", Hex(&area[..count.min(area.len())])),
+        Err(why) => writeln!(w, "{number} {}", Shown(why)),
     };
 }
 
 // A number's bytes.
-fn unsigned(rt: &impl Print, value: u64) {
+fn unsigned(w: &mut Words, value: u64) {
     let mut area = [0u8; 10];
     let count = varint::write_uvarint(value, &mut area);
-    written(rt, value, count, &area)
+    written(w, value, count, &area)
 }
 
 // A signed number and the unsigned one that stands for it.
-fn zigzag(rt: &impl Print, value: i64) {
-    let _ = print!(rt; "signed {value} is zigzag ");
+fn zigzag(w: &mut Words, value: i64) {
+    let _ = write!(w, "signed {} is zigzag ", Signed(value));
     let mut area = [0u8; 10];
     let count = varint::write_varint(value, &mut area);
     match varint::read_uvarint(&area, 0) {
-        Ok(Varint { value, .. }) => written(rt, value, count, &area),
+        Ok(Varint { value, .. }) => written(w, value, count, &area),
         Err(why) => {
-            let _ = println!(rt; "{}", Shown(why));
+            let _ = write!(w, "{}", Shown(why));
         }
     }
 }
 
 // What a signed varint reads as.
-fn signed(rt: &impl Print, bytes: &[u8]) {
+fn signed(w: &mut Words, bytes: &[u8]) {
     let _ = match varint::read_varint(bytes, 0) {
-        Ok(Varint { value, next }) => println!(rt; "{value} in {next}"),
-        Err(why) => println!(rt; "{}", Shown(why)),
+        Ok(Varint { value, next }) => writeln!(w, "{} in {next}", Signed(value)),
+        Err(why) => write!(w, "{}", Shown(why)),
     };
 }
 
 // What the scan answers.
-fn scanned(rt: &impl Print, bytes: &[u8], format: Format) {
+fn scanned(w: &mut Words, bytes: &[u8], format: Format) {
     let _ = match scan::scan_value(bytes, format) {
-        Ok(len) => println!(rt; "length {len}"),
-        Err(why) => println!(rt; "{}", Shown(why)),
+        Ok(len) => writeln!(w, "length {len}"),
+        Err(why) => write!(w, "{}", Shown(why)),
     };
 }
 
 // The bytes of a string.
-fn string(rt: &impl Print, text: &str) {
-    let _ = print!(rt; "{text} : ");
+fn string(w: &mut Words, text: &str) {
+    let _ = write!(w, "{text} :");
     let mut area = [0u8; 16];
     let _ = match lexer::string_bytes(text.as_bytes(), 0, Format::Text, &mut area) {
-        Ok(Copied { count, .. }) => println!(rt; "{}", Hex(&area[..count.min(area.len())])),
-        Err(why) => println!(rt; "{}", Shown(why)),
+        Ok(Copied { count, .. }) => writeln!(w, "{}", Hex(&area[..count.min(area.len())])),
+        Err(why) => write!(w, "{}", Shown(why)),
     };
 }
 
 // Which kind of number some text is.
-fn number(rt: &impl Print, text: &str) {
-    let _ = print!(rt; "{text} : ");
+fn number(w: &mut Words, text: &str) {
+    let _ = write!(w, "{text} : ");
     let _ = match lexer::next_token(text.as_bytes(), 0, Format::Text) {
-        Ok(Placed { token, next, .. }) => println!(rt; "{} of {next}", Shown(token)),
-        Err(why) => println!(rt; "{}", Shown(why)),
+        Ok(Placed { token, next, .. }) => writeln!(w, "{} of {next}", Shown(token)),
+        Err(why) => write!(w, "{}", Shown(why)),
     };
 }
 
 // The Protocol Buffers encoding document.
-fn varints(rt: &impl Print) {
-    let _ = println!(rt; "varints");
+fn varints(w: &mut Words) {
+    let _ = writeln!(w, "varints");
     for value in [1, 150, 300] {
-        unsigned(rt, value);
+        unsigned(w, value);
     }
     for value in [0, -1, 1, -2, 2147483647, -2147483648] {
-        zigzag(rt, value);
+        zigzag(w, value);
     }
-    signed(rt, b"\xff\xff\xff\xff\xff\xff\xff\xff\xff\x01");
-    signed(rt, b"\x96\x01")
+    signed(w, b"\xff\xff\xff\xff\xff\xff\xff\xff\xff\x01");
+    signed(w, b"\x96\x01")
 }
 
 // Document 01 and the documentation of f64::from_str.
-fn numbers(rt: &impl Print) {
-    let _ = println!(rt; "numbers");
+fn numbers(w: &mut Words) {
+    let _ = writeln!(w, "numbers");
     for text in [
         "12",
         "-0u",
@@ -116,12 +118,12 @@ fn numbers(rt: &impl Print) {
         "%true",
         "%false",
     ] {
-        number(rt, text);
+        number(w, text);
     }
 }
 
-fn strings(rt: &impl Print) {
-    let _ = println!(rt; "strings");
+fn strings(w: &mut Words) {
+    let _ = writeln!(w, "strings");
     for text in [
         "\"\\400\"",
         "\"\\x+4\"",
@@ -134,13 +136,13 @@ fn strings(rt: &impl Print) {
         "12",
         "\"0123456789abcdefg\"",
     ] {
-        string(rt, text);
+        string(w, text);
     }
 }
 
 // Places and orders of refusals.
-fn scans(rt: &impl Print) {
-    let _ = println!(rt; "scans");
+fn scans(w: &mut Words) {
+    let _ = writeln!(w, "scans");
     for text in [
         "12",
         "%tr",
@@ -157,8 +159,8 @@ fn scans(rt: &impl Print) {
         "/",
         "{a=\"x\\y\";b=[%true;#]}",
     ] {
-        let _ = print!(rt; "{text} : ");
-        scanned(rt, text.as_bytes(), Format::Text);
+        let _ = write!(w, "{text} : ");
+        scanned(w, text.as_bytes(), Format::Text);
     }
     for bytes in [
         b"\x01\x04ab".as_slice(),
@@ -169,14 +171,17 @@ fn scans(rt: &impl Print) {
         b"{\x01\x02a=\x02\x02}",
         b"\x03\x00\x00\x00\x00\x00\x00\xf0\x7f",
     ] {
-        let _ = print!(rt; "{} : ", Hex(bytes));
-        scanned(rt, bytes, Format::Binary);
+        for byte in bytes {
+            let _ = write!(w, "{} ", Padded(u64::from(*byte), 2));
+        }
+        let _ = write!(w, ": ");
+        scanned(w, bytes, Format::Binary);
     }
 }
 
 // What the C call answers for a format number and some bytes: a length, Incomplete, a refusal, and a format that there is not.
-fn calls(rt: &impl Print) {
-    let _ = println!(rt; "C call");
+fn calls(w: &mut Words) {
+    let _ = writeln!(w, "C call");
     for (format, bytes) in [
         (0, b"#".as_slice()),
         (1, b"[1 2]"),
@@ -185,20 +190,20 @@ fn calls(rt: &impl Print) {
         (2, b"#"),
     ] {
         let answer = abi::yson_scan(format, bytes);
-        let _ = println!(rt; "{format}, {} : {answer}", Hex(bytes));
+        let _ = writeln!(w, "{format},{} : {}", Hex(bytes), Signed(answer));
     }
 }
 
-fn examples(rt: &impl Print) {
-    varints(rt);
-    numbers(rt);
-    strings(rt);
-    scans(rt);
-    tokens::all(rt);
-    streams::all(rt);
-    calls(rt)
+fn examples(w: &mut Words) {
+    varints(w);
+    numbers(w);
+    strings(w);
+    scans(w);
+    tokens::all(w);
+    streams::all(w);
+    calls(w)
 }
 
 fn main(rt: HostRuntime) {
-    examples(&rt);
+    examples(&mut Words(rt.stdout()));
 }

@@ -1,21 +1,60 @@
-// What the examples print, as text.
+// What the examples print, as text, and the words that it is written in.
 use cursor::NoByte;
 use reader::{BufferLength, Mark, NotTaken, Stopped, StrangeState};
 use refusal::{Cause, Refusal, Unread, Unwhole};
 use std::fmt;
+use std::fmt::InlineText;
+use std::io::Stdout;
 use token::{NoBytes, Token};
 use varint::ShortOutput;
 
-// Bytes in hex, a blank between them.
+// The standard output as a writer of words, which are the pieces of a format and the values in it. Each is tried whatever became of
+// the words before it, and what cannot be written is told nowhere.
+#[derive(Drop)]
+pub struct Words(pub Stdout);
+
+impl fmt::Write for Words {
+    fn write_str(&mut self, s: &str) -> fmt::Result {
+        let _ = self.0.write_all(s.as_bytes());
+        Ok(())
+    }
+}
+
+// A number in hex with noughts in front up to a width of at most 16, as one word.
+#[derive(Clone, Copy)]
+pub struct Padded(pub u64, pub usize);
+
+impl fmt::Display for Padded {
+    fn fmt<W: fmt::Write>(&self, f: &mut fmt::Formatter<W>) -> fmt::Result {
+        let Padded(number, width) = *self;
+        let digits = InlineText::<16>::of(format_args!("{number:0width$x}"));
+        f.write_str(digits.as_str())
+    }
+}
+
+// A signed number, whose minus is a word of its own.
+#[derive(Clone, Copy)]
+pub struct Signed(pub i64);
+
+impl fmt::Display for Signed {
+    fn fmt<W: fmt::Write>(&self, f: &mut fmt::Formatter<W>) -> fmt::Result {
+        let value = self.0;
+        if value < 0 {
+            write!(f, "-{}", value.unsigned_abs())
+        } else {
+            write!(f, "{value}")
+        }
+    }
+}
+
+// Bytes in hex, a blank before each.
 #[derive(Clone, Copy)]
 pub struct Hex<'a>(pub &'a [u8]);
 
 impl fmt::Display for Hex<'_> {
     fn fmt<W: fmt::Write>(&self, f: &mut fmt::Formatter<W>) -> fmt::Result {
-        let mut gap = "";
-        for b in self.0 {
-            write!(f, "{gap}{b:02x}")?;
-            gap = " ";
+        for byte in self.0 {
+            write!(f, " {}", Padded(u64::from(*byte), 2))?;
         }
         Ok(())
     }
@@ -40,44 +79,45 @@ impl fmt::Display for Shown<Cause> {
     }
 }
 
-// Why nothing was read.
+// Why nothing was read, with the line's end.
 impl fmt::Display for Shown<Unread> {
     fn fmt<W: fmt::Write>(&self, f: &mut fmt::Formatter<W>) -> fmt::Result {
         match self.0 {
-            Unread::Incomplete => write!(f, "incomplete"),
-            Unread::Refused(refusal) => write!(f, "{}", Shown(refusal)),
-            Unread::Beyond => write!(f, "{}", Shown(Cause::BeyondSlice)),
+            Unread::Incomplete => writeln!(f, "incomplete"),
+            Unread::Refused(refusal) => writeln!(f, "{}", Shown(refusal)),
+            Unread::Beyond => writeln!(f, "{}", Shown(Cause::BeyondSlice)),
         }
     }
 }
 
-// Why there is no whole value.
+// Why there is no whole value, with the line's end.
 impl fmt::Display for Shown<Unwhole> {
     fn fmt<W: fmt::Write>(&self, f: &mut fmt::Formatter<W>) -> fmt::Result {
         match self.0 {
-            Unwhole::Incomplete => write!(f, "incomplete"),
-            Unwhole::Refused(refusal) => write!(f, "{}", Shown(refusal)),
+            Unwhole::Incomplete => writeln!(f, "incomplete"),
+            Unwhole::Refused(refusal) => writeln!(f, "{}", Shown(refusal)),
         }
     }
 }
 
-// Why there is no next byte.
+// Why there is no next byte, with the line's end.
 impl fmt::Display for Shown<NoByte> {
     fn fmt<W: fmt::Write>(&self, f: &mut fmt::Formatter<W>) -> fmt::Result {
         match self.0 {
-            NoByte::Incomplete => write!(f, "incomplete"),
-            NoByte::Beyond => write!(f, "{}", Shown(Cause::BeyondSlice)),
+            NoByte::Incomplete => writeln!(f, "incomplete"),
+            NoByte::Beyond => writeln!(f, "{}", Shown(Cause::BeyondSlice)),
         }
     }
 }
 
-// Why no string's bytes were written.
+// Why no string's bytes were written, behind a blank and with the line's end.
 impl fmt::Display for Shown<NoBytes> {
     fn fmt<W: fmt::Write>(&self, f: &mut fmt::Formatter<W>) -> fmt::Result {
         match self.0 {
-            NoBytes::Unread(unread) => write!(f, "{}", Shown(unread)),
-            NoBytes::NotString => write!(f, "{}", Shown(Cause::NotString)),
-            NoBytes::Short => write!(f, "{}", Shown(Cause::ShortOutput)),
+            NoBytes::Unread(Unread::Incomplete) => writeln!(f, " incomplete"),
+            NoBytes::Unread(unread) => write!(f, " {}", Shown(unread)),
+            NoBytes::NotString => writeln!(f, " {}", Shown(Cause::NotString)),
+            NoBytes::Short => writeln!(f, " {}", Shown(Cause::ShortOutput)),
         }
     }
 }
@@ -132,11 +172,12 @@ impl fmt::Display for Shown<Stopped> {
     }
 }
 
+// Whether a record is a row or a control, behind a blank.
 impl fmt::Display for Shown<Mark> {
     fn fmt<W: fmt::Write>(&self, f: &mut fmt::Formatter<W>) -> fmt::Result {
         match self.0 {
-            Mark::Row => write!(f, "row"),
-            Mark::Control => write!(f, "control"),
+            Mark::Row => write!(f, " row"),
+            Mark::Control => write!(f, " control"),
         }
     }
 }
@@ -155,9 +196,9 @@ impl fmt::Display for Shown<Token> {
             Token::ItemSeparator => write!(f, ";"),
             Token::String { len, .. } => write!(f, "string of {len}"),
             Token::Escaped { len, .. } => write!(f, "escaped string of {len}"),
-            Token::Int64(v) => write!(f, "int64 {v}"),
+            Token::Int64(v) => write!(f, "int64 {}", Signed(v)),
             Token::Uint64(v) => write!(f, "uint64 {v}"),
-            Token::Double { bits, .. } => write!(f, "double {bits:016x}"),
+            Token::Double { bits, .. } => write!(f, "double {}", Padded(bits, 16)),
             Token::Decimal { .. } => write!(f, "decimal"),
             Token::Boolean(q) => write!(f, "{q}"),
         }

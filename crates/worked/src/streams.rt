@@ -1,29 +1,30 @@
 // The stream reader's answers, each refusal from 20 to 28 once but 26 and 27, which are no answers of its calls.
-use crate::shown::{Hex, Shown};
+use crate::shown::{Hex, Shown, Words};
 use reader::{Found, State};
+use std::fmt::Write as _;
 
 // What opening over a buffer answers.
-fn open(rt: &impl Print, buf: &[u8]) {
-    let _ = print!(rt; "buffer of {} : ", buf.len());
+fn open(w: &mut Words, buf: &[u8]) {
+    let _ = write!(w, "buffer of {}", buf.len());
     let _ = match reader::open(0, buf).answer {
-        Ok(()) => println!(rt; "open"),
-        Err(why) => println!(rt; "{}", Shown(why)),
+        Ok(()) => writeln!(w, " : open"),
+        Err(why) => writeln!(w, " : {}", Shown(why)),
     };
 }
 
 // A piece is offered, and next called after it.
-fn piece(rt: &impl Print, state: &mut State, buf: &mut [u8], bytes: &[u8]) {
-    let _ = print!(rt; "piece : ");
+fn piece(w: &mut Words, state: &mut State, buf: &mut [u8], bytes: &[u8]) {
+    let _ = write!(w, "piece : ");
     let _ = match state.offer(buf, bytes) {
-        Ok(count) => println!(rt; "taken {count}"),
-        Err(why) => println!(rt; "{}", Shown(why)),
+        Ok(count) => writeln!(w, "taken {count}"),
+        Err(why) => writeln!(w, "{}", Shown(why)),
     };
-    next(rt, state, buf)
+    next(w, state, buf)
 }
 
 // The next record with its bytes, or why there is none, and how many readings that took.
-fn next(rt: &impl Print, state: &mut State, buf: &[u8]) {
-    let _ = print!(rt; "next : ");
+fn next(w: &mut Words, state: &mut State, buf: &[u8]) {
+    let _ = write!(w, "next : ");
     let next = state.next(buf);
     let _ = match next.answer {
         Ok(
@@ -36,101 +37,103 @@ fn next(rt: &impl Print, state: &mut State, buf: &[u8]) {
         ) => {
             let bytes = Hex(reader::record(buf, place, length));
             let mark = Shown(mark);
-            print!(rt; "record at {place} length {length} offset {offset} {mark}: {bytes}")
+            write!(
+                w,
+                "record at {place} length {length} offset {offset}{mark}:{bytes}"
+            )
         }
-        Ok(Found::End) => print!(rt; "end"),
-        Ok(Found::More) => print!(rt; "more"),
-        Err(why) => print!(rt; "{}", Shown(why)),
+        Ok(Found::End) => write!(w, "end"),
+        Ok(Found::More) => write!(w, "more"),
+        Err(why) => write!(w, "{}", Shown(why)),
     };
-    let _ = println!(rt; ", readings {}", next.readings);
+    let _ = writeln!(w, ", readings {}", next.readings);
 }
 
-fn close(rt: &impl Print, state: &mut State, buf: &[u8]) {
-    let _ = print!(rt; "close : ");
+fn close(w: &mut Words, state: &mut State, buf: &[u8]) {
     let _ = match state.close(buf) {
-        Ok(()) => println!(rt; "done"),
-        Err(why) => println!(rt; "{}", Shown(why)),
+        Ok(()) => writeln!(w, "close : done"),
+        Err(why) => writeln!(w, "close : {}", Shown(why)),
     };
 }
 
 // Two records in three pieces, and the end.
-fn in_pieces(rt: &impl Print, buf: &mut [u8]) {
-    let _ = println!(rt; "pieces");
+fn in_pieces(w: &mut Words, buf: &mut [u8]) {
+    let _ = writeln!(w, "pieces");
     let mut state = reader::open(100, buf).state;
-    piece(rt, &mut state, buf, b"; [\x02");
-    piece(rt, &mut state, buf, b"\x02]<>");
-    next(rt, &mut state, buf);
-    piece(rt, &mut state, buf, b"#");
-    close(rt, &mut state, buf);
-    next(rt, &mut state, buf);
-    next(rt, &mut state, buf)
+    piece(w, &mut state, buf, b"; [\x02");
+    piece(w, &mut state, buf, b"\x02]<>");
+    next(w, &mut state, buf);
+    piece(w, &mut state, buf, b"#");
+    close(w, &mut state, buf);
+    next(w, &mut state, buf);
+    next(w, &mut state, buf)
 }
 
 // 20, 24 and again 20.
-fn malformed(rt: &impl Print, buf: &mut [u8]) {
-    let _ = println!(rt; "malformed");
+fn malformed(w: &mut Words, buf: &mut [u8]) {
+    let _ = writeln!(w, "malformed");
     let mut state = reader::open(0, buf).state;
-    piece(rt, &mut state, buf, b";[}");
-    next(rt, &mut state, buf);
-    close(rt, &mut state, buf);
-    piece(rt, &mut state, buf, b"#");
-    close(rt, &mut state, buf)
+    piece(w, &mut state, buf, b";[}");
+    next(w, &mut state, buf);
+    close(w, &mut state, buf);
+    piece(w, &mut state, buf, b"#");
+    close(w, &mut state, buf)
 }
 
 // 21
-fn cut_short(rt: &impl Print, buf: &mut [u8]) {
-    let _ = println!(rt; "cut short");
+fn cut_short(w: &mut Words, buf: &mut [u8]) {
+    let _ = writeln!(w, "cut short");
     let mut state = reader::open(7, buf).state;
-    piece(rt, &mut state, buf, b"[#");
-    close(rt, &mut state, buf);
-    next(rt, &mut state, buf)
+    piece(w, &mut state, buf, b"[#");
+    close(w, &mut state, buf);
+    next(w, &mut state, buf)
 }
 
 // 22: a string of 100 bytes does not end within the buffer.
-fn too_long(rt: &impl Print, buf: &mut [u8]) {
-    let _ = println!(rt; "too long");
+fn too_long(w: &mut Words, buf: &mut [u8]) {
+    let _ = writeln!(w, "too long");
     let mut state = reader::open(0, buf).state;
     piece(
-        rt,
+        w,
         &mut state,
         buf,
         b"\x01\xc8\x010123456789012345678901234567890123456789012345678901234567890123456789",
     );
-    next(rt, &mut state, buf)
+    next(w, &mut state, buf)
 }
 
 // 25: one byte more than there are offsets.
-fn offset_too_high(rt: &impl Print, buf: &mut [u8]) {
-    let _ = println!(rt; "last offset");
+fn offset_too_high(w: &mut Words, buf: &mut [u8]) {
+    let _ = writeln!(w, "last offset");
     let mut state = reader::open(18446744073709551614, buf).state;
-    piece(rt, &mut state, buf, b"##");
-    piece(rt, &mut state, buf, b"#");
-    piece(rt, &mut state, buf, b"#")
+    piece(w, &mut state, buf, b"##");
+    piece(w, &mut state, buf, b"#");
+    piece(w, &mut state, buf, b"#")
 }
 
 // 28: the state of a refused opening, and a buffer of another length.
-fn strange(rt: &impl Print, buf: &mut [u8], short: &[u8]) {
-    let _ = println!(rt; "strange");
+fn strange(w: &mut Words, buf: &mut [u8], short: &[u8]) {
+    let _ = writeln!(w, "strange");
     let mut state = reader::open(0, short).state;
-    piece(rt, &mut state, buf, b"#");
-    close(rt, &mut state, buf);
+    piece(w, &mut state, buf, b"#");
+    close(w, &mut state, buf);
     state = reader::open(0, buf).state;
-    next(rt, &mut state, short)
+    next(w, &mut state, short)
 }
 
-pub fn all(rt: &impl Print) {
-    let _ = println!(rt; "streams");
+pub fn all(w: &mut Words) {
+    let _ = writeln!(w, "streams");
     // Buffers of the lengths at the limits and beyond them.
     let lengths = [0u8; 65537];
     for n in [63, 64, 65536, 65537] {
-        open(rt, &lengths[..n]);
+        open(w, &lengths[..n]);
     }
     let short = [0u8; 63];
     let mut small = [0u8; 64];
-    in_pieces(rt, &mut small);
-    malformed(rt, &mut small);
-    cut_short(rt, &mut small);
-    too_long(rt, &mut small);
-    offset_too_high(rt, &mut small);
-    strange(rt, &mut small, &short)
+    in_pieces(w, &mut small);
+    malformed(w, &mut small);
+    cut_short(w, &mut small);
+    too_long(w, &mut small);
+    offset_too_high(w, &mut small);
+    strange(w, &mut small, &short)
 }

@@ -4,7 +4,7 @@ use Rattle.lookup.proofs.Laws.{read_is, token_grows}
 use Rattle.worked.proofs.tokens.walk.Goals as goal
 
 pub loop-token-smaller : goal.loop-token-smaller
-loop-token-smaller g c =
+loop-token-smaller c =
     let x = c.args in
     let at = c.loop-token.at in
     let is = read_is x.format x.bytes.now at c.token_at.result _ c.loop-token.invariant c.token_at.ensures c.in-Ok.is in
@@ -12,7 +12,7 @@ loop-token-smaller g c =
     omega (arith, grows.0, grows.1)
 
 pub loop-token-preserved : goal.loop-token-preserved
-loop-token-preserved g c =
+loop-token-preserved c =
     let x = c.args in
     let at = c.loop-token.at in
     let is = read_is x.format x.bytes.now at c.token_at.result _ c.loop-token.invariant c.token_at.ensures c.in-Ok.is in
