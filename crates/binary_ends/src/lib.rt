@@ -192,6 +192,8 @@ fn other_end(input: &[u8], b: u8, at: usize) -> Option<usize>
 }
 
 // The place after the scalar whose marker b stands at `at`. An int64 of one byte comes first, and then what eight bytes tell.
+// Put into each caller by the hint, as `scalar_end` is.
+#[inline(always)]
 fn told_end(input: &[u8], b: u8, at: usize) -> Option<usize>
     requires { (at < length input.now) × (b ≡ get_or input.now at 0) × (0 < b) × (b ≤ 6) }
     ensures { result ≡ scalar_end (kinds_of (binary_from input.now at)) }
@@ -215,6 +217,7 @@ fn told_end(input: &[u8], b: u8, at: usize) -> Option<usize>
 }
 
 // The place after the string or other scalar at a place, whose value is not asked for, where a whole one stands.
+#[inline(always)]
 pub fn scalar_end(input: &[u8], at: usize) -> Option<usize>
     ensures { result ≡ scalar_end (kinds_of (binary_from input.now at)) }
 {

@@ -3,9 +3,10 @@
 #![tactic(auto)]
 
 ghost use Rattle.std.specs.Prelude.{◌≡◌, length};
-ghost use Rattle.token.specs.Meaning.{read_meaning};
+ghost use Rattle.token.specs.Meaning.{read_meaning, kinds_of};
 ghost use Rattle.token.specs.Ends.{string_end, scalar_end};
 ghost use Rattle.token.specs.Strings.{unescaped_meaning, bytes_answer, bytes_written};
+ghost use Rattle.binary.specs.Binary.{binary_from};
 ghost use Rattle.lexer.specs.Lexer.{token_at, kind_at, skip_of, string_at};
 
 use refusal::Format;
@@ -34,6 +35,8 @@ pub fn string_bytes(input: &[u8], at: usize, format: Format, out: &mut [u8]) -> 
 }
 
 // The first place from a place on that is not ignored.
+// Put into each caller by the hint: in binary there is nothing to do.
+#[inline(always)]
 pub fn skip(input: &[u8], at: usize, format: Format) -> usize
     ensures { result ≡ skip_of format input.now at }
 {
@@ -53,12 +56,23 @@ pub fn string_end(input: &[u8], at: usize, format: Format) -> Option<usize>
     }
 }
 
+// The place after the string or other scalar at a place in binary, where a whole one stands.
+// A function of its own, by the hint, for callers that go by the format: the code of the end, which `binary_ends` puts into each caller,
+// is there once then.
+#[inline(never)]
+fn binary_end(input: &[u8], at: usize) -> Option<usize>
+    ensures { result ≡ scalar_end (kinds_of (binary_from input.now at)) }
+{
+    binary_ends::scalar_end(input, at)
+}
+
 // The place after the string or other scalar at a place, where a whole one stands.
+#[inline(always)]
 pub fn scalar_end(input: &[u8], at: usize, format: Format) -> Option<usize>
     ensures { result ≡ scalar_end (kind_at format input.now at) }
 {
     match format {
-        Format::Binary => binary_ends::scalar_end(input, at),
+        Format::Binary => binary_end(input, at),
         Format::Text => text::scalar_end(input, at),
     }
 }

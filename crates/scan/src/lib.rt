@@ -96,6 +96,18 @@ fn stop_at(input: &[u8], p: usize, wrong: Why, format: Format) -> Unwhole
     }
 }
 
+// The same as a part's answer: none, and `why` says why.
+// Kept out of its callers, by the hints too: with it there, each part would begin by clearing room for this answer.
+#[cold]
+#[inline(never)]
+fn stopped(input: &[u8], p: usize, wrong: Why, format: Format, why: &mut Unwhole) -> Option<usize>
+    requires { p < length input.now }
+    ensures { answer_of result why.new ≡ why_of (why_number wrong) (kind_at format input.now p) }
+{
+    *why = stop_at(input, p, wrong, format);
+    None
+}
+
 // A value: at most one attribute block, and then a scalar, a list or a map.
 // Kept: a struct of input and format by value took 1.21 of the instructions on deep lists; by reference 1.03, with longer clauses.
 #[cycle(values)]
@@ -162,8 +174,7 @@ fn scan_begun(
         return scan_list(input, p + 1, depth.deeper(), format, why);
     }
     if second_attributes(b, passed) {
-        *why = stop_at(input, p, Why::NotValue, format);
-        return None;
+        return stopped(input, p, Why::NotValue, format, why);
     }
     if opens_pairs(b) {
         if depth.is_full() {
@@ -182,8 +193,7 @@ fn scan_begun(
         return Some(end);
     }
     let Some(end) = lexer::scalar_end(input, p, format) else {
-        *why = stop_at(input, p, Why::NotValue, format);
-        return None;
+        return stopped(input, p, Why::NotValue, format, why);
     };
     Some(end)
 }
@@ -238,6 +248,8 @@ fn scan_list(
 }
 
 // The place after all the whole pairs of a short key and a scalar that follow one another in binary, each with its separator.
+// Kept out of the parts that call one another by the hint, as `past_text` is, so that these need little room on the stack.
+#[inline(never)]
 fn past_flat(input: &[u8], from: usize) -> usize
     ensures { Along Binary input.now from result }
 {
@@ -298,6 +310,7 @@ fn value_end(input: &[u8], at: usize) -> Option<usize>
 }
 
 // The same in text, where a key may be long and blanks and comments may stand between.
+#[inline(never)]
 fn past_text(input: &[u8], from: usize) -> usize
     ensures { Along Text input.now from result }
 {
@@ -360,8 +373,7 @@ fn scan_fragment(
         let b = input[p];
         if b == b'}' {
             if attributes {
-                *why = stop_at(input, p, Why::NotKey, format);
-                return None;
+                return stopped(input, p, Why::NotKey, format, why);
             }
             return Some(p + 1);
         }
@@ -369,15 +381,13 @@ fn scan_fragment(
             if attributes {
                 return Some(p + 1);
             }
-            *why = stop_at(input, p, Why::NotKey, format);
-            return None;
+            return stopped(input, p, Why::NotKey, format, why);
         }
         if b == b';' {
             at = p + 1;
         } else {
             let Some(key) = lexer::string_end(input, p, format) else {
-                *why = stop_at(input, p, Why::NotKey, format);
-                return None;
+                return stopped(input, p, Why::NotKey, format, why);
             };
             at = scan_pair(input, key, depth, format, why)?;
         }
@@ -403,6 +413,5 @@ fn scan_pair(
     if input[p] == b'=' {
         return scan_tree(input, p + 1, depth, format, why);
     }
-    *why = stop_at(input, p, Why::NotEquals, format);
-    None
+    stopped(input, p, Why::NotEquals, format, why)
 }

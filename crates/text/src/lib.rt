@@ -156,6 +156,8 @@ pub fn string_end(input: &[u8], at: usize) -> Option<usize>
 }
 
 // The place after the string or other scalar at a place, where a whole one stands.
+// A function of its own by the hint, as `binary_end` of lexer is.
+#[inline(never)]
 pub fn scalar_end(input: &[u8], at: usize) -> Option<usize>
     ensures { result ≡ scalar_end (kinds_of (text_from input.now at)) }
 {

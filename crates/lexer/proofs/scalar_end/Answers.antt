@@ -12,12 +12,12 @@ pub returns-in-Binary : goal.returns-in-Binary
 unfolding kind_at token_from
 returns-in-Binary c =
     let x = c.args in
-    let end : _ ≡ scalar_end (kinds_of (binary_from x.input.now x.at)) = c.scalar_end.ensures in
+    let end : _ ≡ scalar_end (kinds_of (binary_from x.input.now x.at)) = c.binary_end.ensures in
     end ∙ ap (λ (f : Format). scalar_end (kind_at f x.input.now x.at)) (sym c.in-Binary.is)
 
 pub returns-in-Text : goal.returns-in-Text
 unfolding kind_at token_from
 returns-in-Text c =
     let x = c.args in
-    let end : _ ≡ scalar_end (kinds_of (text_from x.input.now x.at)) = c.scalar_end-in-Text.ensures in
+    let end : _ ≡ scalar_end (kinds_of (text_from x.input.now x.at)) = c.scalar_end.ensures in
     end ∙ ap (λ (f : Format). scalar_end (kind_at f x.input.now x.at)) (sym c.in-Text.is)

@@ -33,7 +33,7 @@ pub scan_begun-returns-then-b-eq91 : goal.scan_begun-returns-then-b-eq91
 scan_begun-returns-then-b-eq91 t c = let d = c.is_full.ensures.1 c.if-is_full.false in begun_in _ _ _ c.requires _ c.args.passed list list_closed (into _ _ _ c.requires _ list_opens list (due_of c.args.passed) item c.if-input-p.false c.if-b-eq91.true (opens_list c.args.passed) (omega (arith, d)) (λ e. omega (arith, d)) (items_at (omega arith) c.scan_list.ensures))
 
 pub scan_begun-returns-then-second_attributes : goal.scan_begun-returns-then-second_attributes
-scan_begun-returns-then-second_attributes t c = let g = c.second_attributes.ensures.0 c.if-second_attributes.true in mark_wrong _ _ _ c.requires attributes_open c.if-input-p.false g.0 not_value (λ K. K) (due_of c.args.passed) (omega arith) (attributes_passed _ g.1) c.stop_at.ensures
+scan_begun-returns-then-second_attributes t c = let g = c.second_attributes.ensures.0 c.if-second_attributes.true in mark_wrong _ _ _ c.requires attributes_open c.if-input-p.false g.0 not_value (λ K. K) (due_of c.args.passed) (omega arith) (attributes_passed _ g.1) c.stopped.ensures
 
 pub scan_begun-returns-then-is_full-2 : goal.scan_begun-returns-then-is_full-2
 scan_begun-returns-then-is_full-2 t c = pairs_too _ _ _ c.requires _ c.args.passed c.if-input-p.false (c.opens_pairs.ensures.0 c.if-opens_pairs.true) (c.second_attributes.ensures.1 c.if-second_attributes.false) (c.is_full-then-opens_pairs.ensures.0 c.if-is_full-2.true)
@@ -51,7 +51,7 @@ pub scan_begun-returns-then-opens_pairs : goal.scan_begun-returns-then-opens_pai
 scan_begun-returns-then-opens_pairs t c = let d = c.is_full-then-opens_pairs.ensures.1 c.if-is_full-2.false in pairs_whole _ _ _ c.requires _ c.args.passed c.if-input-p.false (c.opens_pairs.ensures.0 c.if-opens_pairs.true) (c.second_attributes.ensures.1 c.if-second_attributes.false) (omega (arith, d)) (λ e. omega (arith, d)) _ c.if-attributes.false c.opens_attributes-attributes.ensures.1 (pairs_at _ (omega arith) c.in_ok-end.ensures)
 
 pub scan_begun-returns-in_default : goal.scan_begun-returns-in_default
-scan_begun-returns-in_default t c = let g = c.opens_pairs.ensures.1 c.if-opens_pairs.false in begun_none _ _ _ c.requires _ c.args.passed c.if-b-eq91.false g.1 g.0 c.in_default.ensures c.stop_at-in_default.ensures
+scan_begun-returns-in_default t c = let g = c.opens_pairs.ensures.1 c.if-opens_pairs.false in begun_none _ _ _ c.requires _ c.args.passed c.if-b-eq91.false g.1 g.0 c.in_default.ensures c.stopped-in_default.ensures
 
 pub scan_begun-returns : goal.scan_begun-returns
 scan_begun-returns t c = begun_whole _ _ _ _ c.args.passed _ c.in-Some.ensures
@@ -60,7 +60,7 @@ pub scan_fragment-returns-then-input-p : goal.scan_fragment-returns-then-input-p
 scan_fragment-returns-then-input-p t c = from_here _ _ (block_of c.args.attributes) key _ _ _ (along_here _ _ c.args.attributes _ _ _ _ c.loop-depth.invariant c.past_pairs-q.ensures) _ c.skip-p.ensures (ended _ _ _ (λ K. (block_of c.args.attributes) ∷ K) key c.if-input-p.true)
 
 pub scan_fragment-returns-then-attributes : goal.scan_fragment-returns-then-attributes
-scan_fragment-returns-then-attributes t c = from_here _ _ (block_of c.args.attributes) key _ _ _ (along_here _ _ c.args.attributes _ _ _ _ c.loop-depth.invariant c.past_pairs-q.ensures) _ c.skip-p.ensures (mark_wrong _ _ _ (skip_here _ _ _ _ c.skip-p.ensures) map_closes c.if-input-p.false c.if-b-eq125.true not_key (λ K. (block_of c.args.attributes) ∷ K) key (omega arith) (λ K. map_wrong _ K c.if-attributes.true) c.stop_at.ensures)
+scan_fragment-returns-then-attributes t c = from_here _ _ (block_of c.args.attributes) key _ _ _ (along_here _ _ c.args.attributes _ _ _ _ c.loop-depth.invariant c.past_pairs-q.ensures) _ c.skip-p.ensures (mark_wrong _ _ _ (skip_here _ _ _ _ c.skip-p.ensures) map_closes c.if-input-p.false c.if-b-eq125.true not_key (λ K. (block_of c.args.attributes) ∷ K) key (omega arith) (λ K. map_wrong _ K c.if-attributes.true) c.stopped.ensures)
 
 pub scan_fragment-returns-then-b-eq125 : goal.scan_fragment-returns-then-b-eq125
 scan_fragment-returns-then-b-eq125 t c = block_end _ _ (block_of c.args.attributes) key _ _ _ (along_here _ _ c.args.attributes _ _ _ _ c.loop-depth.invariant c.past_pairs-q.ensures) _ c.skip-p.ensures map_closes c.if-input-p.false c.if-b-eq125.true (λ K. map_ends _ K c.if-attributes.false)
@@ -69,7 +69,7 @@ pub scan_fragment-returns-then-attributes-2 : goal.scan_fragment-returns-then-at
 scan_fragment-returns-then-attributes-2 t c = block_end _ _ (block_of c.args.attributes) key _ _ _ (along_here _ _ c.args.attributes _ _ _ _ c.loop-depth.invariant c.past_pairs-q.ensures) _ c.skip-p.ensures attributes_close c.if-input-p.false c.if-b-eq62.true (λ K. attributes_end _ K c.if-attributes-2.true)
 
 pub scan_fragment-returns-then-b-eq62 : goal.scan_fragment-returns-then-b-eq62
-scan_fragment-returns-then-b-eq62 t c = from_here _ _ (block_of c.args.attributes) key _ _ _ (along_here _ _ c.args.attributes _ _ _ _ c.loop-depth.invariant c.past_pairs-q.ensures) _ c.skip-p.ensures (mark_wrong _ _ _ (skip_here _ _ _ _ c.skip-p.ensures) attributes_close c.if-input-p.false c.if-b-eq62.true not_key (λ K. (block_of c.args.attributes) ∷ K) key (omega arith) (λ K. attributes_wrong _ K c.if-attributes-2.false) c.stop_at-then-b-eq62.ensures)
+scan_fragment-returns-then-b-eq62 t c = from_here _ _ (block_of c.args.attributes) key _ _ _ (along_here _ _ c.args.attributes _ _ _ _ c.loop-depth.invariant c.past_pairs-q.ensures) _ c.skip-p.ensures (mark_wrong _ _ _ (skip_here _ _ _ _ c.skip-p.ensures) attributes_close c.if-input-p.false c.if-b-eq62.true not_key (λ K. (block_of c.args.attributes) ∷ K) key (omega arith) (λ K. attributes_wrong _ K c.if-attributes-2.false) c.stopped-then-b-eq62.ensures)
 
 pub scan_fragment-loop-depth-smaller-then-b-eq59 : goal.scan_fragment-loop-depth-smaller-then-b-eq59
 scan_fragment-loop-depth-smaller-then-b-eq59 t c = omega (arith, skip_on _ _ _ _ c.skip-p.ensures, c.past_pairs-q.ensures.0)
@@ -78,7 +78,7 @@ pub scan_fragment-loop-depth-preserved-then-b-eq59 : goal.scan_fragment-loop-dep
 scan_fragment-loop-depth-preserved-then-b-eq59 t c = block_next _ _ (block_of c.args.attributes) key _ _ _ (along_here _ _ c.args.attributes _ _ _ _ c.loop-depth.invariant c.past_pairs-q.ensures) _ c.skip-p.ensures c.if-input-p.false c.if-b-eq59.true (λ K. key_next ((block_of c.args.attributes) ∷ K))
 
 pub scan_fragment-returns-in_default : goal.scan_fragment-returns-in_default
-scan_fragment-returns-in_default t c = from_here _ _ (block_of c.args.attributes) key _ _ _ (along_here _ _ c.args.attributes _ _ _ _ c.loop-depth.invariant c.past_pairs-q.ensures) _ c.skip-p.ensures (key_none _ _ _ (skip_here _ _ _ _ c.skip-p.ensures) 0 (block_of c.args.attributes) c.if-b-eq125.false c.if-b-eq62.false c.if-b-eq59.false c.in_default.ensures c.stop_at-in_default.ensures)
+scan_fragment-returns-in_default t c = from_here _ _ (block_of c.args.attributes) key _ _ _ (along_here _ _ c.args.attributes _ _ _ _ c.loop-depth.invariant c.past_pairs-q.ensures) _ c.skip-p.ensures (key_none _ _ _ (skip_here _ _ _ _ c.skip-p.ensures) 0 (block_of c.args.attributes) c.if-b-eq125.false c.if-b-eq62.false c.if-b-eq59.false c.in_default.ensures c.stopped-in_default.ensures)
 
 pub scan_fragment-scan_pair-requires : goal.scan_fragment-scan_pair-requires
 scan_fragment-scan_pair-requires t c = let g = string_run c.args.format _ _ _ c.in-Some.ensures in omega (arith, g.1, g.2, (along_here _ _ c.args.attributes _ _ _ _ c.loop-depth.invariant c.past_pairs-q.ensures).0, skip_on _ _ _ _ c.skip-p.ensures, c.past_pairs-q.ensures.0)
@@ -132,7 +132,7 @@ pub scan_pair-returns-then-input-p-eq61 : goal.scan_pair-returns-then-input-p-eq
 scan_pair-returns-then-input-p-eq61 t c = skipped _ _ _ (λ K. K) equals c.skip-p.ensures (pair_tree _ _ _ (skip_here _ _ _ _ c.skip-p.ensures) _ c.if-input-p.false c.if-input-p-eq61.true c.scan_tree.ensures)
 
 pub scan_pair-returns : goal.scan_pair-returns
-scan_pair-returns t c = skipped _ _ _ (λ K. K) equals c.skip-p.ensures (pair_none _ _ _ (skip_here _ _ _ _ c.skip-p.ensures) _ c.if-input-p-eq61.false c.stop_at.ensures)
+scan_pair-returns t c = skipped _ _ _ (λ K. K) equals c.skip-p.ensures (pair_none _ _ _ (skip_here _ _ _ _ c.skip-p.ensures) _ c.if-input-p-eq61.false c.stopped.ensures)
 
 pub scan_tree-scan_begun-requires : goal.scan_tree-scan_begun-requires
 scan_tree-scan_begun-requires t c = (omega (arith, skip_on _ _ _ _ c.skip-p.ensures), skip_here _ _ _ _ c.skip-p.ensures)
